@@ -1,0 +1,4 @@
+pub mod Words
+pub mod Signed
+pub mod Masks
+pub mod Iterate

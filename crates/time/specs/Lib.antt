@@ -1,0 +1,4 @@
+pub mod Time
+pub mod Clock
+pub mod Laws
+pub mod Edges
