@@ -1,4 +1,7 @@
 pub mod Words
 pub mod Signed
 pub mod Masks
+pub mod Bools
+pub mod Bytes
 pub mod Iterate
+pub mod Rows

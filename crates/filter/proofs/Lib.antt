@@ -1,0 +1,4 @@
+pub mod Sums
+pub mod Codes
+pub mod Floor
+pub mod Answers

@@ -1,0 +1,62 @@
+-- The filter of three axes on the declared record, as `new`, `window`, `select` and `push` leave it. Assumes nothing.
+use Prim.Native.Nat.{ℕ, _+_, _-_, _*_, _%_, _^_, min}
+use mathlib.Core.Bool.{cond}
+use mathlib.Core.List.{List}
+use lib.Dec.{ltb}
+use lib.ListN.{getD, set, replicate}
+use lib.IntN.{ℤ, pos}
+use Rattle.filter.specs.declared.Filter.{Filter}
+use Rattle.filter.specs.Mean.{ring, mean}
+
+-- the shift of a bandwidth code: 6 - b, 7 as 6 (01), and so every greater number
+abbrev pub shift-of : ℕ → ℕ
+shift-of bandwidth = 6 - min bandwidth 6
+
+-- the window, 2 ^ (6 - b) (01): 2 ^ shift; a shift above 6 counts as 6
+abbrev pub window : Filter → ℕ
+window f = 2 ^ min (f .shift) 6
+
+-- a new filter: three histories of 64 zeros, no code counted (01)
+abbrev pub made : ℕ → Filter
+made bandwidth = record {
+  history = replicate 192 (pos 0);
+  next = replicate 3 0;
+  count = replicate 3 0;
+  shift = shift-of bandwidth;
+}
+
+-- another bandwidth, which keeps the histories (01)
+abbrev pub selected : Filter → ℕ → Filter
+selected f bandwidth = record {
+  history = f .history;
+  next = f .next;
+  count = f .count;
+  shift = shift-of bandwidth;
+}
+
+-- the place in an axis's ring of 64 that is written next; the axis counts modulo 3, the place modulo 64
+abbrev pub place : Filter → ℕ → ℕ
+place f axis = getD (f .next) (axis % 3) 0 % 64
+
+-- how many codes an axis holds with one more: at most 64 (the Rust's rule)
+abbrev pub count-with : Filter → ℕ → ℕ
+count-with f axis = min (getD (f .count) (axis % 3) 0 + 1) 64
+
+-- the filter after a code is pushed on an axis (the Rust's `push`): written at the next place, which moves on, and counted
+unfoldable pub pushed : Filter → ℕ → ℤ → Filter
+pushed f axis code = record {
+  history = set (f .history) (axis % 3 * 64 + place f axis) code;
+  next = set (f .next) (axis % 3) ((place f axis + 1) % 64);
+  count = set (f .count) (axis % 3) (count-with f axis);
+  shift = f .shift;
+}
+
+-- the last 64 codes of an axis, newest first: the newest stands one place before the next
+abbrev pub last-codes : Filter → ℕ → List ℤ
+last-codes f axis = ring (f .history) (axis % 3 * 64) ((place f axis + 63) % 64)
+
+-- the answer to a pushed code: itself while its axis holds fewer codes than the window, itself included, and else the mean (01)
+unfoldable pub answered : Filter → ℕ → ℤ → ℤ
+answered f axis code =
+    cond (ltb (count-with f axis) (window f)) code
+    (mean (window f) (last-codes (pushed f axis code) axis))

@@ -1,0 +1,3 @@
+pub mod Mean
+pub mod Filter
+pub mod Operations

@@ -1,0 +1,5 @@
+pub mod Criteria
+pub mod State
+pub mod Pin
+pub mod Fields
+pub mod History

@@ -1,0 +1,65 @@
+-- The marked rows of 01: each value computed from the definition that the contracts cite, beside the number that 01 prints. Assumes nothing.
+use Prim.Native.Nat.{ℕ, _^_}
+use mathlib.Core.Path.{_≡_, refl}
+use mathlib.Core.Bool.{Bool, true, false}
+use mathlib.Core.List.{List, [], _∷_, _++_}
+use lib.ListN.{getD, replicate}
+use lib.IntN.{ℤ, pos, negsuc}
+use Rattle.laws.specs.Rows.{Row, answer, all}
+use Rattle.time.specs.Time.{ticks, time}
+use Rattle.time.specs.Clock.{edge}
+use Rattle.filter.specs.Mean.{tabulate, ring, sumZ, mean}
+use Rattle.filter.specs.Filter.{pushed, answered}
+use Rattle.filter.specs.Operations.{push, select, after}
+use Rattle.registers.specs.Access.{unwritable, working, stored, image-blocks, sleep-blocks, locked, ignores, begins}
+use Rattle.registers.specs.Codes.{held, range-g, code}
+use Rattle.interrupts.specs.Criteria.{sets, clears, raised, observe}
+use Rattle.interrupts.specs.State.{new, axis}
+
+-- M1, M2: an edge of a clock that starts at 0, in units
+abbrev edge-at : ℕ → ℤ
+edge-at n = pos (ticks (edge (time 0) n))
+
+-- M4: window 4 (bandwidth 4), codes −1, 0, 0 and then 0
+abbrev fourth-answer : ℤ
+fourth-answer = answered (after 4 (push 0 (pos 0) ∷ push 0 (pos 0) ∷ push 0 (negsuc 0) ∷ [])) 0 (pos 0)
+
+-- M5: codes 5, 7, 9 at window 1 (bandwidth 6), then window 2 (bandwidth 5) and code 10
+abbrev after-a-new-window : ℤ
+after-a-new-window = answered (after 6 (select 5 ∷ push 0 (pos 9) ∷ push 0 (pos 7) ∷ push 0 (pos 5) ∷ [])) 0 (pos 10)
+
+-- M8: the registers as the stock image leaves 0b..1d, and whether a code on the first axis sets its high-g
+abbrev stock : List ℕ
+stock =
+    replicate 11 0
+    ++ (3 ∷ 20 ∷ 150 ∷ 160 ∷ 150 ∷ 0 ∷ 0 ∷ 162 ∷ 13 ∷ 14 ∷ 128 ∷ 0 ∷ 0 ∷ 0 ∷ 0 ∷ 128 ∷ 128 ∷ 128 ∷ 0 ∷ [])
+
+abbrev sets-high : ℤ → ℤ
+sets-high c = answer (getD (axis new 0 c stock .«high_g» .axes) 0 false)
+
+-- M9, M10: awake, nothing running, bit 4 of 0a set
+abbrev ignored : ℕ → ℤ
+ignored address = answer (ignores address 0 0x10 false false false)
+
+abbrev starts : ℕ → ℤ
+starts address = answer (begins address 0 0x10 false false false false)
+
+abbrev pub rows : List Row
+rows =
+    record { number = 1; computed = edge-at 1; printed = pos 1537228672809129 }
+    ∷ record { number = 2; computed = edge-at 12000; printed = pos (2 ^ 64) }
+    ∷ record { number = 4; computed = fourth-answer; printed = negsuc 0 }
+    ∷ record { number = 5; computed = after-a-new-window; printed = pos 9 }
+    ∷ record { number = 6; computed = code (negsuc 3905) 512 0; printed = pos 0 }
+    ∷ record { number = 7; computed = code (negsuc 3906) 512 0; printed = negsuc 0 }
+    ∷ record { number = 8; computed = sets-high (pos 321); printed = answer false }
+    ∷ record { number = 8; computed = sets-high (pos 322); printed = answer true }
+    ∷ record { number = 9; computed = ignored 0x09; printed = answer true }
+    ∷ record { number = 9; computed = ignored 0x0a; printed = answer false }
+    ∷ record { number = 10; computed = starts 0x3d; printed = answer true }
+    ∷ record { number = 10; computed = ignored 0x3e; printed = answer true }
+    ∷ []
+
+pub rows-hold : all rows ≡ true
+unfolding after pushed answered ring tabulate sumZ mean axis observe raised sets clears code held range-g ignores unwritable image-blocks sleep-blocks locked working begins stored
+rows-hold = refl

@@ -1,0 +1,3 @@
+// The SPI frame (devices/bma150.rs: `Serial`, `rising_effect`, `shift_output`, `falling`).
+pub mod frame;
+pub mod types;
