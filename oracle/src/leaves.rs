@@ -1,0 +1,72 @@
+//! Leaf files of the text, compiled once more so that a comparison can call
+//! them alone. Thin wrappers, no meaning of their own.
+use crate::time::{Duration, Time};
+
+#[path = "devices/bma150/filter.rs"]
+#[allow(dead_code)]
+mod filter;
+#[path = "devices/bma150/interrupts.rs"]
+#[allow(dead_code)]
+mod interrupts;
+#[path = "devices/nv.rs"]
+#[allow(dead_code)]
+mod nv;
+
+/// The byte of a stored write of `target` over `old` at register `address`,
+/// `elapsed` units of 2^-64 s after its start.
+pub fn torn_byte(old: u8, target: u8, address: u8, elapsed: u64) -> u8 {
+    let cycle = nv::WriteCycle::start(Time::ZERO, Duration::from_millis(28)).expect("28 ms");
+    let cell = 0x20000 + u32::from(address);
+    cycle.byte(old, target, cell, Time::from_raw(u128::from(elapsed)))
+}
+
+#[derive(Clone, Debug, PartialEq, Eq)]
+pub struct Filter(filter::Filter);
+
+impl Filter {
+    pub fn new(bandwidth: u8) -> Self {
+        Self(filter::Filter::new(bandwidth))
+    }
+    pub fn window(&self) -> usize {
+        self.0.window()
+    }
+    pub fn select(&mut self, bandwidth: u8) {
+        self.0.select(bandwidth);
+    }
+    pub fn push(&mut self, axis: usize, code: i16) -> i16 {
+        self.0.push(axis, code)
+    }
+}
+
+#[derive(Clone, Debug, Default, PartialEq, Eq)]
+pub struct Interrupts(interrupts::Interrupts);
+
+impl Interrupts {
+    pub fn configure(&mut self, registers: &[u8]) {
+        self.0.configure(registers);
+    }
+    pub fn restart_acquisition(&mut self) {
+        self.0.restart_acquisition();
+    }
+    pub fn reset(&mut self, registers: &[u8]) {
+        self.0.reset(registers);
+    }
+    pub fn axis(&mut self, axis: usize, code: i16, registers: &[u8]) {
+        self.0.axis(axis, code, registers);
+    }
+    pub fn cycle(&mut self, codes: [i16; 3], window: usize, registers: &[u8]) {
+        self.0.cycle(codes, window, registers);
+    }
+    pub fn millisecond(&mut self, registers: &[u8]) {
+        self.0.millisecond(registers);
+    }
+    pub fn status(&self) -> u8 {
+        self.0.status()
+    }
+    pub fn output(&self, registers: &[u8]) -> bool {
+        self.0.output(registers)
+    }
+    pub fn verifying(&self, registers: &[u8]) -> bool {
+        self.0.verifying(registers)
+    }
+}

@@ -1,0 +1,20 @@
+//! The Rust text of the sensor, compiled as it stands, and the driver around
+//! it. `time`, `signals`, `state` and `devices/*` are the text; `build` puts
+//! them beside these files.
+pub mod command;
+mod devices;
+mod error;
+pub mod generator;
+pub mod leaves;
+pub mod line;
+pub mod model;
+pub mod random;
+#[allow(dead_code)]
+pub mod signals;
+#[allow(dead_code)]
+mod state;
+#[allow(dead_code)]
+pub mod time;
+
+pub use error::Error;
+pub use time::{Duration, Time};

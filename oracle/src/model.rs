@@ -1,0 +1,252 @@
+//! The sensor with the last accepted time, and the refusals in front of it.
+use crate::{
+    command::{Command, IMAGE},
+    devices::bma150::Bma150,
+    signals::{Acceleration, Drive, Event, NvDomain, Output},
+    time::Time,
+    Error,
+};
+use core::ops::ControlFlow;
+
+/// The largest magnitude of an axis, in micro-g.
+pub const AXIS_LIMIT: u32 = 1_000_000_000;
+/// The whole seconds of an accepted time are below this.
+pub const TIME_LIMIT: u128 = 1 << 96;
+
+#[derive(Clone, Copy, Debug, PartialEq, Eq)]
+pub enum Refusal {
+    ImageLength = 1,
+    AxisRange = 2,
+    TimeLimit = 3,
+    TimeBack = 4,
+    DueFirst = 5,
+    NotDue = 6,
+    Command = 7,
+}
+
+impl Refusal {
+    pub fn word(self) -> &'static str {
+        match self {
+            Refusal::ImageLength => "image-length",
+            Refusal::AxisRange => "axis-range",
+            Refusal::TimeLimit => "time-limit",
+            Refusal::TimeBack => "time-back",
+            Refusal::DueFirst => "due-first",
+            Refusal::NotDue => "not-due",
+            Refusal::Command => "command",
+        }
+    }
+}
+
+/// The end of a stored write, as a supply or due call reports it.
+#[derive(Clone, Copy, Debug, Default, PartialEq, Eq)]
+pub enum Report {
+    #[default]
+    Nothing,
+    Completed(u8, u8),
+    Cut(u8, u8),
+}
+
+/// What an accepted call answers beside the pins.
+#[derive(Clone, Copy, Debug, PartialEq, Eq)]
+pub enum Answer {
+    Plain,
+    Report(Report),
+    Image([u8; IMAGE]),
+    Viewed(Option<u8>),
+}
+
+pub type Reply = Result<Answer, Refusal>;
+
+/// Gathers the events of one call.
+#[derive(Default)]
+struct Events {
+    byte: Option<(u8, u8)>,
+    report: Report,
+    /// An event that the model should never send.
+    stray: bool,
+}
+
+impl Events {
+    fn close(&mut self, of: impl Fn(u8, u8) -> Report, address: u16) {
+        match self.byte.take() {
+            Some((at, value)) if u16::from(at) == address && self.report == Report::Nothing => {
+                self.report = of(at, value);
+            }
+            _ => self.stray = true,
+        }
+    }
+}
+
+impl Output for Events {
+    fn event(&mut self, event: Event) -> ControlFlow<()> {
+        let sensor = NvDomain::Sensor;
+        match event {
+            Event::NvByte {
+                domain,
+                address,
+                value,
+                ..
+            } if domain == sensor && self.byte.is_none() => {
+                self.byte = Some((address as u8, value));
+            }
+            Event::NvCommit {
+                domain, address, ..
+            } if domain == sensor => self.close(Report::Completed, address),
+            Event::NvInterrupted {
+                domain, address, ..
+            } if domain == sensor => self.close(Report::Cut, address),
+            _ => self.stray = true,
+        }
+        ControlFlow::Continue(())
+    }
+}
+
+impl Events {
+    fn report(self) -> Result<Answer, Error> {
+        if self.stray || self.byte.is_some() {
+            return Err(Error::Internal("unexpected events"));
+        }
+        Ok(Answer::Report(self.report))
+    }
+}
+
+#[derive(Clone, Debug, PartialEq, Eq)]
+pub struct Model {
+    sensor: Bma150,
+    /// The last accepted time.
+    last: Time,
+}
+
+impl Default for Model {
+    fn default() -> Self {
+        Self {
+            sensor: Bma150::new(Time::ZERO),
+            last: Time::ZERO,
+        }
+    }
+}
+
+impl Model {
+    pub fn last(&self) -> Time {
+        self.last
+    }
+    pub fn next_due(&self) -> Option<Time> {
+        self.sensor.interaction_deadline()
+    }
+    pub fn interrupt(&self) -> bool {
+        self.sensor.interrupt()
+    }
+    pub fn output(&self) -> Drive {
+        self.sensor.output()
+    }
+    pub fn data_output(&self) -> Drive {
+        self.sensor.data_output()
+    }
+    pub fn next_sample(&self) -> Option<Time> {
+        self.sensor.next_sample()
+    }
+    pub fn sleeping(&self) -> bool {
+        self.sensor.sleeping()
+    }
+    pub fn writing(&self) -> bool {
+        self.sensor.nonvolatile_busy()
+    }
+    pub fn stored(&self, at: Time) -> [u8; IMAGE] {
+        self.sensor.nonvolatile(at)
+    }
+    pub fn peek(&self, address: u8) -> Option<u8> {
+        self.sensor.peek(address)
+    }
+
+    /// The first refusal of the table that applies, in the order
+    /// 3, 4, 2, 5, 6. Numbers 7 and 1 are met before a command exists.
+    pub fn refusal(&self, command: &Command) -> Option<Refusal> {
+        let at = command.time()?;
+        if at.raw() >= TIME_LIMIT {
+            return Some(Refusal::TimeLimit);
+        }
+        if matches!(command, Command::Start { .. }) {
+            return None;
+        }
+        if at < self.last {
+            return Some(Refusal::TimeBack);
+        }
+        match command {
+            Command::StoredImage { .. } => return None,
+            Command::Accelerations { axes, .. } => {
+                if axes.iter().any(|v| v.unsigned_abs() > AXIS_LIMIT) {
+                    return Some(Refusal::AxisRange);
+                }
+            }
+            _ => {}
+        }
+        let due = self.next_due();
+        if matches!(command, Command::Due { .. }) {
+            (due != Some(at)).then_some(Refusal::NotDue)
+        } else {
+            due.is_some_and(|due| due <= at)
+                .then_some(Refusal::DueFirst)
+        }
+    }
+
+    /// Refuse or carry out a command. An error is a fault of the text: no
+    /// accepted call should meet one.
+    pub fn apply(&mut self, command: &Command) -> Result<Reply, Error> {
+        if let Some(refusal) = self.refusal(command) {
+            return Ok(Err(refusal));
+        }
+        match *command {
+            Command::Start { at, image } => {
+                self.sensor = Bma150::from_nonvolatile(at, &image)?;
+                self.last = at;
+            }
+            Command::Temperature(value) => self.sensor.set_temperature(value),
+            Command::Select(level) => self.sensor.set_selected(level),
+            Command::View(address) => {
+                return Ok(Ok(Answer::Viewed(self.sensor.peek(address))));
+            }
+            Command::StoredImage { at } => {
+                return Ok(Ok(Answer::Image(self.sensor.nonvolatile(at))));
+            }
+            _ => return self.timed(command).map(Ok),
+        }
+        Ok(Ok(Answer::Plain))
+    }
+
+    fn timed(&mut self, command: &Command) -> Result<Answer, Error> {
+        let now = command.time().expect("a timed call");
+        let sensor = &mut self.sensor;
+        sensor.sync_local_until(now, false)?;
+        self.last = now;
+        let mut events = Events::default();
+        match *command {
+            Command::Accelerations {
+                axes: [x, y, z], ..
+            } => {
+                sensor.set_input(Acceleration { x, y, z }, now)?;
+            }
+            Command::Supply { millivolts, .. } => {
+                sensor.set_supply(millivolts, now, &mut events)?;
+                return events.report();
+            }
+            Command::Due { .. } => {
+                sensor.at_deadline(now, &mut events)?;
+                return events.report();
+            }
+            Command::Rising { data, .. } => {
+                sensor.rising_at(data, now)?;
+            }
+            Command::Falling { .. } => {
+                sensor.falling_at(now)?;
+            }
+            Command::Pins { levels, .. } => {
+                let [clock, data, after_clock, after_data] =
+                    [8, 4, 2, 1].map(|bit| levels & bit != 0);
+                sensor.i2c_pins_at([clock, data], [after_clock, after_data], now)?;
+            }
+            _ => unreachable!("not a timed call"),
+        }
+        Ok(Answer::Plain)
+    }
+}
