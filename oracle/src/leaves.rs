@@ -12,12 +12,26 @@ mod interrupts;
 #[allow(dead_code)]
 mod nv;
 
+fn write_from(started: Time) -> nv::WriteCycle {
+    nv::WriteCycle::start(started, Duration::from_millis(28)).expect("28 ms")
+}
+
 /// The byte of a stored write of `target` over `old` at register `address`,
 /// `elapsed` units of 2^-64 s after its start.
 pub fn torn_byte(old: u8, target: u8, address: u8, elapsed: u64) -> u8 {
-    let cycle = nv::WriteCycle::start(Time::ZERO, Duration::from_millis(28)).expect("28 ms");
+    let now = Time::from_raw(u128::from(elapsed));
+    torn_byte_at(old, target, address, Time::ZERO, now)
+}
+
+/// The same at the moment `now`, for a write that began at `started`.
+pub fn torn_byte_at(old: u8, target: u8, address: u8, started: Time, now: Time) -> u8 {
     let cell = 0x20000 + u32::from(address);
-    cycle.byte(old, target, cell, Time::from_raw(u128::from(elapsed)))
+    write_from(started).byte(old, target, cell, now)
+}
+
+/// When a write that began at `started` ends.
+pub fn write_end(started: Time) -> Time {
+    write_from(started).deadline
 }
 
 #[derive(Clone, Debug, PartialEq, Eq)]

@@ -8,7 +8,9 @@ pub mod generator;
 pub mod leaves;
 pub mod line;
 pub mod model;
+pub mod pins;
 pub mod random;
+pub mod records;
 #[allow(dead_code)]
 pub mod signals;
 #[allow(dead_code)]

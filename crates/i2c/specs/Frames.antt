@@ -2,14 +2,14 @@
 use mathlib.Core.Path.{_≡_, refl, sym, ap, _∙_}
 use mathlib.Core.Bool.{Bool, true, false, not, _||_}
 use mathlib.Core.List.{List, [], _∷_, _++_}
-use Prim.Native.Nat.{ℕ, zero, suc, _+_, _-_, _*_, _/_, _%_, _^_, _≤_, _<_}
-use native.Mathlib.Nat.{add-zero, zero-add, mod-lt}
+use Prim.Native.Nat.{ℕ, _+_, _%_, _≤_, _<_}
+use native.Mathlib.Nat.{add-zero, zero-add}
 use native.Mathlib.Omega.{arith}
 use borrow.Author.Tests.{lt-ltb, ne-eqb}
-use lib.Dec.{leb, eqb, lit<, leb→le}
+use lib.Dec.{leb→le}
 use lib.ListN.{length, replicate}
 use Rattle.laws.specs.Bools.{or-left, or-right}
-use Rattle.laws.specs.Bytes.{bit, sent-bit, bit-value, shifted-in}
+use Rattle.laws.specs.Bytes.{sent-bit, shifted-in, all-shifted-in, seven-bits, bits-make-the-byte}
 use Rattle.i2c.specs.declared.types.Levels.{Levels}
 use Rattle.i2c.specs.declared.types.Edge.{Edge}
 use Rattle.i2c.specs.declared.types.Edge.the-variants.{Still, Start, Stop, Rise, Fall}
@@ -110,9 +110,6 @@ clocked [] = []
 clocked (d ∷ ds) = Rise d ∷ Fall ∷ clocked ds
 
 -- a byte of the master's up to its eighth rise, most significant bit first (UM10204 3.1.5)
-abbrev pub seven-bits : ℕ → List Bool
-seven-bits b = sent-bit b 0 ∷ sent-bit b 1 ∷ sent-bit b 2 ∷ sent-bit b 3 ∷ sent-bit b 4 ∷ sent-bit b 5 ∷ sent-bit b 6 ∷ []
-
 abbrev pub eight-rises : ℕ → List Edge
 eight-rises b = clocked (seven-bits b) ++ (Rise (sent-bit b 7) ∷ [])
 
@@ -147,77 +144,6 @@ pub stop-drops : (fetch : ℕ → ℕ) (v : Target) → serve fetch v Stop ≡ t
 unfolding serve act step is-condition is-start is-rise is-fall data-at conditioned acknowledging within-byte byte-step bit-taken pointer-after at-ninth ninth-step acknowledge-step followed answer-step answer answered completes completed received addressed
 stop-drops fetch v = refl
 
--- ---- bytes received
-
--- the number that bits shifted in from the right make of x
-unfoldable pub shifted : ℕ → List Bool → ℕ
-shifted x [] = x
-shifted x (d ∷ ds) = shifted (shifted-in x d) ds
-
-module _ (fetch : ℕ → ℕ) (k : Receive) (p : ℕ) (l : Bool) (s : ℕ) (done : List Action) where
-  one-bit : (b x : ℕ) (d : Bool) → b < 7
-      → serve fetch (serve fetch (target (P.Receive k) p b x l s done) (Rise d)) Fall ≡ target (P.Receive k) p (b + 1) (shifted-in x d) l s done
-  unfolding serve act step is-condition is-start is-rise is-fall data-at conditioned acknowledging within-byte byte-step bit-taken pointer-after at-ninth ninth-step acknowledge-step followed answer-step answer answered completes completed received addressed
-  one-bit b x d h = rw (lt-ltb b 7 h)
-
-  -- fewer than eight bits: nothing is done
-  pub bits-received : (ds : List Bool) (b x : ℕ) → b + length ds ≤ 7
-      → served fetch (target (P.Receive k) p b x l s done) (clocked ds) ≡ target (P.Receive k) p (b + length ds) (shifted x ds) l s done
-  unfolding served clocked shifted
-  bits-received [] b x h = rw add-zero
-  bits-received (d ∷ ds) b x h =
-      let e : b + 1 + length ds ≡ b + length (d ∷ ds) = omega arith in
-      ap (λ (v : Target). served fetch v (clocked ds)) (one-bit b x d (omega arith))
-      ∙ bits-received ds (b + 1) (shifted-in x d) (rw e h)
-      ∙ ap (λ (n : ℕ). target (P.Receive k) p n (shifted (shifted-in x d) ds) l s done) e
-
--- a bit as a number is the number
-bit-number : (n : ℕ) → n < 2 → bit-value (eqb n 1) ≡ n
-bit-number zero h = refl
-bit-number (suc zero) h = refl
-bit-number (suc (suc n)) h = absurd (omega arith)
-
-bit-at : (b k : ℕ) → bit-value (sent-bit b k) ≡ b / 2 ^ (7 - k) % 2
-bit-at b k = bit-number (b / 2 ^ (7 - k) % 2) (mod-lt (b / 2 ^ (7 - k)) (lit< tt))
-
--- the eight bits of a byte make the byte
-pub byte-value : (b : ℕ) → b < 256 → shifted-in (shifted 0 (seven-bits b)) (sent-bit b 7) ≡ b
-unfolding shifted
-byte-value b h =
-    let s0 : 0 % 128 * 2 + b / 2 ^ 7 % 2 ≡ b / 2 ^ 7 = omega arith in
-    let s1 : b / 2 ^ 7 % 128 * 2 + b / 2 ^ 6 % 2 ≡ b / 2 ^ 6 = omega arith in
-    let s2 : b / 2 ^ 6 % 128 * 2 + b / 2 ^ 5 % 2 ≡ b / 2 ^ 5 = omega arith in
-    let s3 : b / 2 ^ 5 % 128 * 2 + b / 2 ^ 4 % 2 ≡ b / 2 ^ 4 = omega arith in
-    let s4 : b / 2 ^ 4 % 128 * 2 + b / 2 ^ 3 % 2 ≡ b / 2 ^ 3 = omega arith in
-    let s5 : b / 2 ^ 3 % 128 * 2 + b / 2 ^ 2 % 2 ≡ b / 2 ^ 2 = omega arith in
-    let s6 : b / 2 ^ 2 % 128 * 2 + b / 2 ^ 1 % 2 ≡ b / 2 ^ 1 = omega arith in
-    let s7 : b / 2 ^ 1 % 128 * 2 + b / 2 ^ 0 % 2 ≡ b = omega arith in
-    rw (bit-at b 0, s0, bit-at b 1, s1, bit-at b 2, s2, bit-at b 3, s3, bit-at b 4, s4, bit-at b 5, s5, bit-at b 6, s6, bit-at b 7) s7
-
--- at the eighth rise the byte is taken for what it is
-module _ (fetch : ℕ → ℕ) (p : ℕ) (l : Bool) (s : ℕ) (done : List Action) (b : ℕ) (small : b < 256) where
-  taken : (k : Receive) → served fetch (target (P.Receive k) p 0 0 l s done) (eight-rises b) ≡ serve fetch (target (P.Receive k) p 7 (shifted 0 (seven-bits b)) l s done) (Rise (sent-bit b 7))
-  unfolding served
-  taken k =
-      served-append fetch (clocked (seven-bits b)) (Rise (sent-bit b 7) ∷ []) (target (P.Receive k) p 0 0 l s done)
-      ∙ ap (λ (v : Target). serve fetch v (Rise (sent-bit b 7))) (bits-received fetch k p l s done (seven-bits b) 0 0 (leb→le 7 7 tt))
-
-  -- a register byte sets the pointer, modulo 128
-  pub register-byte : served fetch (target (P.Receive R.Control) p 0 0 l s done) (eight-rises b) ≡ target (P.Acknowledge F.Data 0) (b % 128) 0 0 false s done
-  unfolding serve act step is-condition is-start is-rise is-fall data-at conditioned acknowledging within-byte byte-step bit-taken pointer-after at-ninth ninth-step acknowledge-step followed answer-step answer answered completes completed received addressed
-  register-byte = taken R.Control ∙ rw (byte-value b small)
-
-  -- a value byte is written at the pointer
-  pub value-byte : served fetch (target (P.Receive R.Data) p 0 0 l s done) (eight-rises b)
-      ≡ target (P.Acknowledge F.Control 0) p 0 0 false s (done ++ (A.Write p b ∷ []))
-  unfolding serve act step is-condition is-start is-rise is-fall data-at conditioned acknowledging within-byte byte-step bit-taken pointer-after at-ninth ninth-step acknowledge-step followed answer-step answer answered completes completed received addressed
-  value-byte = taken R.Data ∙ rw (byte-value b small)
-
-  -- an address byte other than 70 and 71 hex is not answered
-  pub other-address : (b ≡ 0x70 → ⊥) → (b ≡ 0x71 → ⊥) → served fetch (target (P.Receive R.Address) p 0 0 l s done) (eight-rises b) ≡ target P.Idle p 0 0 false s done
-  unfolding serve act step is-condition is-start is-rise is-fall data-at conditioned acknowledging within-byte byte-step bit-taken pointer-after at-ninth ninth-step acknowledge-step followed answer-step answer answered completes completed received addressed
-  other-address m n = taken R.Address ∙ rw (byte-value b small, ne-eqb b 0x70 m, ne-eqb b 0x71 n)
-
 -- ---- the address
 
 module _ (fetch : ℕ → ℕ) (v : Target) (level : Bool) where
@@ -238,6 +164,50 @@ module _ (fetch : ℕ → ℕ) (v : Target) (level : Bool) where
   pub read-address : served fetch v (address-frame 0x71 ++ (Fall ∷ Rise level ∷ [])) ≡ target (P.Acknowledge F.Read 2) (v .state .pointer) 0 0 true 0xff (v .done)
   unfolding served clocked serve act step is-condition is-start is-rise is-fall data-at conditioned acknowledging within-byte byte-step bit-taken pointer-after at-ninth ninth-step acknowledge-step followed answer-step answer answered completes completed received addressed
   read-address = refl
+
+-- ---- bytes received
+
+module _ (fetch : ℕ → ℕ) (k : Receive) (p : ℕ) (l : Bool) (s : ℕ) (done : List Action) where
+  one-bit : (b x : ℕ) (d : Bool) → b < 7
+      → serve fetch (serve fetch (target (P.Receive k) p b x l s done) (Rise d)) Fall ≡ target (P.Receive k) p (b + 1) (shifted-in x d) l s done
+  unfolding serve act step is-condition is-start is-rise is-fall data-at conditioned acknowledging within-byte byte-step bit-taken pointer-after at-ninth ninth-step acknowledge-step followed answer-step answer answered completes completed received addressed
+  one-bit b x d h = rw (lt-ltb b 7 h)
+
+  -- fewer than eight bits: nothing is done
+  pub bits-received : (ds : List Bool) (b x : ℕ) → b + length ds ≤ 7
+      → served fetch (target (P.Receive k) p b x l s done) (clocked ds) ≡ target (P.Receive k) p (b + length ds) (all-shifted-in x ds) l s done
+  unfolding served clocked all-shifted-in
+  bits-received [] b x h = rw add-zero
+  bits-received (d ∷ ds) b x h =
+      let e : b + 1 + length ds ≡ b + length (d ∷ ds) = omega arith in
+      ap (λ (v : Target). served fetch v (clocked ds)) (one-bit b x d (omega arith))
+      ∙ bits-received ds (b + 1) (shifted-in x d) (rw e h)
+      ∙ ap (λ (n : ℕ). target (P.Receive k) p n (all-shifted-in (shifted-in x d) ds) l s done) e
+
+-- at the eighth rise the byte is taken for what it is
+module _ (fetch : ℕ → ℕ) (p : ℕ) (l : Bool) (s : ℕ) (done : List Action) (b : ℕ) (small : b < 256) where
+  taken : (k : Receive) → served fetch (target (P.Receive k) p 0 0 l s done) (eight-rises b) ≡ serve fetch (target (P.Receive k) p 7 (all-shifted-in 0 (seven-bits b)) l s done) (Rise (sent-bit b 7))
+  unfolding served
+  taken k =
+      served-append fetch (clocked (seven-bits b)) (Rise (sent-bit b 7) ∷ []) (target (P.Receive k) p 0 0 l s done)
+      ∙ ap (λ (v : Target). serve fetch v (Rise (sent-bit b 7))) (bits-received fetch k p l s done (seven-bits b) 0 0 (leb→le 7 7 tt))
+
+  -- a register byte sets the pointer, modulo 128
+  pub register-byte : served fetch (target (P.Receive R.Control) p 0 0 l s done) (eight-rises b) ≡ target (P.Acknowledge F.Data 0) (b % 128) 0 0 false s done
+  unfolding serve act step is-condition is-start is-rise is-fall data-at conditioned acknowledging within-byte byte-step bit-taken pointer-after at-ninth ninth-step acknowledge-step followed answer-step answer answered completes completed received addressed
+  register-byte = taken R.Control ∙ rw (bits-make-the-byte b small)
+
+  -- a value byte is written at the pointer
+  pub value-byte : served fetch (target (P.Receive R.Data) p 0 0 l s done) (eight-rises b)
+      ≡ target (P.Acknowledge F.Control 0) p 0 0 false s (done ++ (A.Write p b ∷ []))
+  unfolding serve act step is-condition is-start is-rise is-fall data-at conditioned acknowledging within-byte byte-step bit-taken pointer-after at-ninth ninth-step acknowledge-step followed answer-step answer answered completes completed received addressed
+  value-byte =
+      taken R.Data ∙ ap (λ (x : ℕ). target (P.Acknowledge F.Control 0) p 0 0 false s (done ++ (A.Write p x ∷ []))) (bits-make-the-byte b small)
+
+  -- an address byte other than 70 and 71 hex is not answered
+  pub other-address : (b ≡ 0x70 → ⊥) → (b ≡ 0x71 → ⊥) → served fetch (target (P.Receive R.Address) p 0 0 l s done) (eight-rises b) ≡ target P.Idle p 0 0 false s done
+  unfolding serve act step is-condition is-start is-rise is-fall data-at conditioned acknowledging within-byte byte-step bit-taken pointer-after at-ninth ninth-step acknowledge-step followed answer-step answer answered completes completed received addressed
+  other-address m n = taken R.Address ∙ rw (bits-make-the-byte b small, ne-eqb b 0x70 m, ne-eqb b 0x71 n)
 
 -- START and Fall alone
 started : (fetch : ℕ → ℕ) (v : Target) → serve fetch (serve fetch v Start) Fall ≡ target (P.Receive R.Address) (v .state .pointer) 0 0 false 0xff (v .done)
@@ -334,8 +304,8 @@ unfolding served
 broken-value-writes-nothing fetch p l s done ds h =
     let v = target (P.Receive R.Data) p 0 0 l s done in
     let e = bits-received fetch R.Data p l s done ds 0 0 (rw zero-add h) in (
-      rw (served-append fetch (clocked ds) (Start ∷ []) v, e, start-drops fetch (target (P.Receive R.Data) p (0 + length ds) (shifted 0 ds) l s done)),
-      rw (served-append fetch (clocked ds) (Stop ∷ []) v, e, stop-drops fetch (target (P.Receive R.Data) p (0 + length ds) (shifted 0 ds) l s done)),
+      rw (served-append fetch (clocked ds) (Start ∷ []) v, e, start-drops fetch (target (P.Receive R.Data) p (0 + length ds) (all-shifted-in 0 ds) l s done)),
+      rw (served-append fetch (clocked ds) (Stop ∷ []) v, e, stop-drops fetch (target (P.Receive R.Data) p (0 + length ds) (all-shifted-in 0 ds) l s done)),
     )
 
 -- ---- reads: the eight bits appear most significant first, from the fall that fetches the byte

@@ -444,7 +444,7 @@ impl State {
     }
 
     // The event e: the first step that applies.
-    fn stepped(self, e: Edge, quiet: bool, sent: u8) -> Step
+    pub fn stepped(self, e: Edge, quiet: bool, sent: u8) -> Step
         ensures { λ r. ⌜ r ≡ E.step self e quiet sent ⌝ }
     {
         let phase = self.phase;
@@ -492,11 +492,10 @@ impl State {
     }
 
     // Whether this report uses converted values, so that a sample at the same moment comes first.
-    pub fn consumes_conversion(self, before: Levels, after: Levels) -> bool
-        ensures { λ r. ⌜ r ≡ E.consumes-conversion self (B.edge before after) ⌝ }
+    pub fn consumes(self, e: Edge) -> bool
+        ensures { λ r. ⌜ r ≡ E.consumes-conversion self e ⌝ }
     {
         let phase = self.phase;
-        let e = edge(before, after);
         if is_rise(e) {
             return uses_at_rise(phase, self.bits);
         }
@@ -504,5 +503,11 @@ impl State {
             return uses_at_fall(phase);
         }
         false
+    }
+
+    pub fn consumes_conversion(self, before: Levels, after: Levels) -> bool
+        ensures { λ r. ⌜ r ≡ E.consumes-conversion self (B.edge before after) ⌝ }
+    {
+        self.consumes(edge(before, after))
     }
 }

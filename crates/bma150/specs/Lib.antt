@@ -1,0 +1,9 @@
+pub mod Record
+pub mod Image
+pub mod Control
+pub mod Writes
+pub mod Samples
+pub mod Bytes
+pub mod Serial
+pub mod Supply
+pub mod Due

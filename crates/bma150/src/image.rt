@@ -1,0 +1,236 @@
+// The stored image, the working image, and a sensor at its start.
+ghost use mathlib.Core.Path.{_≡_};
+ghost use Rattle.bma150.specs.Image as Im;
+use crate::types::Bma150;
+use crate::types::Operation;
+use crate::types::Supply;
+use crate::types::Writing;
+use deadlines::Deadline;
+use deadlines::Deadlines;
+use filter::Filter;
+use i2c::types::State;
+use interrupts::Interrupts;
+use reads::Reads;
+use registers::access::stored;
+use registers::fields::MEASUREMENT;
+use registers::fields::OPERATION;
+use registers::fields::SHADOW_DIS;
+use registers::fields::bandwidth;
+use registers::fields::has;
+use sampling::types::Input;
+use sampling::types::Sampling;
+use sampling::types::Test;
+use spi::types::Frame;
+use time::Clock;
+use time::Duration;
+use time::Time;
+
+pub(crate) fn cell(image: [u8; 19], address: u8) -> u8
+    ensures { λ r. ⌜ r ≡ Im.cell image address ⌝ }
+{
+    if stored(address) {
+        return image[(address - 0x2b) as usize];
+    }
+    0
+}
+
+pub(crate) fn with_cell(image: [u8; 19], address: u8, value: u8) -> [u8; 19]
+    ensures { λ r. ⌜ r ≡ Im.with-cell image address value ⌝ }
+{
+    let mut i = image;
+    if stored(address) {
+        i[(address - 0x2b) as usize] = value;
+        return i;
+    }
+    i
+}
+
+fn image_at(operation: Operation, image: [u8; 19], now: Time) -> [u8; 19]
+    ensures { λ r. ⌜ r ≡ Im.image-at operation image now ⌝ }
+{
+    match operation {
+        Operation::Idle => image,
+        Operation::Running(w, address, value) => {
+            let old = cell(image, address);
+            let byte = w.byte(old, value, 0x20000 + address as u32, now);
+            with_cell(image, address, byte)
+        }
+    }
+}
+
+// The image in the registers 0b..1d.
+fn image_copied(registers: [u8; 62], image: [u8; 19]) -> [u8; 62]
+    ensures { λ r. ⌜ r ≡ Im.image-copied registers image ⌝ }
+{
+    let mut r = registers;
+    let mut i: usize = 0;
+    while i < 19 {
+        r[11 + i] = image[i];
+        i += 1;
+    }
+    r
+}
+
+pub(crate) fn shadowing(reads: Reads, byte: u8) -> Reads
+    ensures { λ r. ⌜ r ≡ Im.shadowing reads byte ⌝ }
+{
+    if has(byte, SHADOW_DIS) {
+        return reads.release();
+    }
+    reads
+}
+
+pub(crate) fn reset_registers() -> [u8; 62]
+    ensures { λ r. ⌜ r ≡ Im.reset-registers ⌝ }
+{
+    let mut r = [0; 62];
+    r[0] = 2;
+    r[1] = 0x10;
+    r
+}
+
+fn fresh_sampling(now: Time) -> Sampling
+    ensures { λ r. ⌜ r ≡ Im.fresh-sampling now ⌝ }
+{
+    Sampling {
+        filter: Filter::new(6),
+        filtered: [0; 3],
+        clock: Clock::new(now),
+        asleep: false,
+        auto_cycles: 0,
+        test: Test::Off,
+        data_ready: false,
+    }
+}
+
+fn acquiring(now: Time) -> Deadlines
+    ensures { λ r. ⌜ r ≡ Im.acquiring now ⌝ }
+{
+    let d = Deadlines::never();
+    let length = control::waits::acquisition_delay(Duration::from_millis(3));
+    d.with_wake(Deadline::At(now.plus(length)))
+}
+
+fn blank(now: Time, image: [u8; 19], input: Input) -> Bma150
+    ensures { λ r. ⌜ r ≡ Im.blank now image input ⌝ }
+{
+    Bma150 {
+        registers: reset_registers(),
+        nonvolatile: image,
+        frame: Frame::fresh(false),
+        i2c: State::new(),
+        reads: Reads::new(),
+        input: input,
+        sampling: fresh_sampling(now),
+        deadlines: acquiring(now),
+        writing: Writing {
+            operation: Operation::Idle,
+        },
+        interrupts: Interrupts::new(),
+        supply: Supply {
+            unpowered_since: Deadline::Never,
+            cold: false,
+        },
+        last: now,
+    }
+}
+
+// A sensor that returns from 0 mV.
+pub(crate) fn powered(now: Time, image: [u8; 19], input: Input) -> Bma150
+    ensures { λ r. ⌜ r ≡ Im.powered now image input ⌝ }
+{
+    let b = blank(now, image, input);
+    let mut s = b.copy_image();
+    let d = s.deadlines;
+    s.deadlines = d.with_serial_ready(Deadline::At(now.plus(Duration::from_millis(3))));
+    s
+}
+
+impl Bma150 {
+    // The stored bytes at a moment.
+    pub(crate) fn nonvolatile(self, now: Time) -> [u8; 19]
+        ensures { λ r. ⌜ r ≡ Im.nonvolatile self now ⌝ }
+    {
+        let writing = self.writing;
+        let operation = writing.operation;
+        let image = self.nonvolatile;
+        image_at(operation, image, now)
+    }
+
+    // The registers are these; what follows from them is set.
+    fn configured(self, registers: [u8; 62]) -> Bma150
+        ensures { λ r. ⌜ r ≡ Im.configured self registers ⌝ }
+    {
+        let mut s = self;
+        s.registers = registers;
+        let reads = s.reads;
+        s.reads = shadowing(reads, registers[OPERATION]);
+        let mut g = s.sampling;
+        let f = g.filter;
+        g.filter = f.select(bandwidth(registers[MEASUREMENT]));
+        s.sampling = g;
+        let i = s.interrupts;
+        s.interrupts = i.configure(registers);
+        s
+    }
+
+    pub(crate) fn copy_image(self) -> Bma150
+        ensures { λ r. ⌜ r ≡ Im.copy-image self ⌝ }
+    {
+        let registers = self.registers;
+        let image = self.nonvolatile;
+        self.configured(image_copied(registers, image))
+    }
+
+    // A start with these stored bytes.
+    pub(crate) fn from_nonvolatile(now: Time, image: [u8; 19]) -> Bma150
+        ensures { λ r. ⌜ r ≡ Im.from-nonvolatile now image ⌝ }
+    {
+        let still = Input {
+            x: 0,
+            y: 0,
+            z: 1000000,
+            temperature_millicelsius: 20000,
+        };
+        let s = blank(now, image, still);
+        s.copy_image()
+    }
+
+    // A start with the stock image.
+    pub(crate) fn new(now: Time) -> Bma150
+        ensures { λ r. ⌜ r ≡ Im.from-nonvolatile now Im.stock ⌝ }
+    {
+        Bma150::from_nonvolatile(
+            now,
+            [
+                3,
+                20,
+                150,
+                160,
+                150,
+                0,
+                0,
+                162,
+                13,
+                14,
+                128,
+                0,
+                0,
+                0,
+                0,
+                128,
+                128,
+                128,
+                0,
+            ],
+        )
+    }
+
+    pub(crate) fn power_on(self, now: Time) -> Bma150
+        ensures { λ r. ⌜ r ≡ Im.power-on self now ⌝ }
+    {
+        let image = self.nonvolatile;
+        let input = self.input;
+        powered(now, image, input)
+    }
+}

@@ -1,0 +1,5 @@
+// The decisions of writes and of automatic control, on plain values (bma150/control.rs).
+pub mod automatic;
+pub mod types;
+pub mod waits;
+pub mod writes;

@@ -1,0 +1,77 @@
+use Rattle.laws.specs.Signed.{Reach, holds, back}
+use mir.Syntax.{w16, w32, w64}
+use Prim.Native.Nat.{_^_}
+use Rattle.sampling.specs.Phase.{converted}
+use mathlib.Core.Path.{sym, _∙_}
+use borrow.Author.Needs.{needs}
+use Rattle.sampling.proofs.phase.converted.Statement.{statement}
+use Rattle.sampling.proofs.phase.converted.Tie as tie
+
+array-read-has : tie.Need-array-read-has
+array-read-has c = search needs
+
+has-requires : tie.Need-has-requires
+has-requires c κs = search needs
+
+returns : tie.Need-returns
+unfolding converted
+returns c = simp (sym (c .before .has .ensures) ∙ c .if1 .taken)
+
+add-low : tie.Need-add-low
+add-low c = search needs
+
+array-read-low : tie.Need-array-read-low
+array-read-low c = search needs
+
+add-high : tie.Need-add-high
+add-high c = search needs
+
+array-read-high : tie.Need-array-read-high
+array-read-high c = search needs
+
+sampled-requires : tie.Need-sampled-requires
+sampled-requires c κs = search needs
+
+cast-code : tie.Need-cast-code
+cast-code c =
+    let r : Reach (c .sampled .result) (2 ^ 31) = record { reach = c .sampled .ok } in
+    rw (back w32 r tt) (holds r tt)
+
+offset-requires : tie.Need-offset-requires
+offset-requires c κs = search needs
+
+array-read-range : tie.Need-array-read-range
+array-read-range c = search needs
+
+range-requires : tie.Need-range-requires
+range-requires c κs = search needs
+
+code-requires : tie.Need-code-requires
+code-requires c κs = search needs
+
+returns-2 : tie.Need-returns-2
+unfolding converted
+returns-2 c =
+    let v = c .before .before .before .sampled in
+    let r : Reach (v .result) (2 ^ 31) = record { reach = v .ok } in
+    let k : Reach (c .code .result) (2 ^ 15) = record { reach = c .code .ok } in
+    rw (sym (c .before .before .before .before .before .has .ensures) ∙ c .before .before .before .before .if1 .left, back w16 k tt, c .code .ensures, c .before .range .ensures, c .before .before .offset .ensures, back w32 r tt, back w64 r tt, v .ensures)
+
+pub converted-spec : {M : Type 1} → statement M
+converted-spec =
+    tie.close
+    (tie.spec
+    array-read-has
+    has-requires
+    returns
+    add-low
+    array-read-low
+    add-high
+    array-read-high
+    sampled-requires
+    cast-code
+    offset-requires
+    array-read-range
+    range-requires
+    code-requires
+    returns-2)

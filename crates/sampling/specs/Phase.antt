@@ -1,0 +1,178 @@
+-- Sample phases: temperature, x, y, z, in turn at the clock's edges. Assumes nothing.
+use Prim.Native.Nat.{ℕ, _+_, _-_, _*_, _%_, min}
+use mathlib.Core.Bool.{Bool, true, cond, not, _&&_, _||_}
+use mathlib.Core.List.{List}
+use lib.Dec.{leb, eqb}
+use lib.ListN.{set}
+use lib.IntN.{ℤ, pos}
+use lib.Bits.{bitAnd, bitOr}
+use Rattle.laws.specs.Iterate.{iterate}
+use Rattle.time.specs.declared.Clock.{Clock}
+use Rattle.time.specs.Clock as C
+use Rattle.filter.specs.declared.Filter.{Filter}
+use Rattle.filter.specs.Filter.{window, pushed, answered}
+use Rattle.registers.specs.Map.{at, acc-lsb, acc-msb, temp, status, control, measurement, operation, offset-lsb, offset-msb, new-data, self-test-1, range, new-data-INT, wake-up}
+use Rattle.registers.specs.Codes.{offset, code, code-low, code-high, temperature}
+use Rattle.interrupts.specs.declared.Interrupts.{Interrupts}
+use Rattle.interrupts.specs.State as I
+use Rattle.sampling.specs.declared.types.Input.{Input}
+use Rattle.sampling.specs.declared.types.Test.{Test}
+use Rattle.sampling.specs.declared.types.Test.the-variants.{Off, Phases}
+use Rattle.sampling.specs.declared.types.Sampling.{Sampling}
+use Rattle.sampling.specs.declared.types.Conversion.{Conversion}
+
+-- ---- parts of the record
+
+abbrev pub with-registers : Conversion → List ℕ → Conversion
+with-registers c r = record { registers = r; sampling = c .sampling; interrupts = c .interrupts }
+
+abbrev pub with-sampling : Conversion → Sampling → Conversion
+with-sampling c s = record { registers = c .registers; sampling = s; interrupts = c .interrupts }
+
+abbrev pub with-interrupts : Conversion → Interrupts → Conversion
+with-interrupts c i = record { registers = c .registers; sampling = c .sampling; interrupts = i }
+
+abbrev pub with-clock : Sampling → Clock → Sampling
+with-clock s k = record { filter = s .filter; filtered = s .filtered; clock = k; asleep = s .asleep; «auto_cycles» = s .«auto_cycles»; test = s .test; «data_ready» = s .«data_ready» }
+
+abbrev pub with-test : Sampling → Test → Sampling
+with-test s t = record { filter = s .filter; filtered = s .filtered; clock = s .clock; asleep = s .asleep; «auto_cycles» = s .«auto_cycles»; test = t; «data_ready» = s .«data_ready» }
+
+abbrev pub with-filtered : Sampling → Filter → List ℤ → Sampling
+with-filtered s f codes = record { filter = f; filtered = codes; clock = s .clock; asleep = s .asleep; «auto_cycles» = s .«auto_cycles»; test = s .test; «data_ready» = s .«data_ready» }
+
+abbrev pub with-scan : Sampling → ℕ → Bool → Sampling
+with-scan s n ready = record { filter = s .filter; filtered = s .filtered; clock = s .clock; asleep = s .asleep; «auto_cycles» = n; test = s .test; «data_ready» = ready }
+
+-- ---- acquisition
+
+-- bit 0 of 15, wake_up: the sensor wakes and pauses by itself
+abbrev pub automatic : List ℕ → Bool
+automatic registers = wake-up (at registers operation)
+
+-- scans before the first observation after waking: 1 at window 1, else twice the window (the Rust's rule)
+unfoldable pub acquisition-cycles : ℕ → ℕ
+acquisition-cycles w = cond (eqb w 1) 1 (2 * w)
+
+-- the sensor has been awake for that many scans
+abbrev pub acquired : Sampling → Bool
+acquired s = leb (acquisition-cycles (window (s .filter))) (s .«auto_cycles»)
+
+-- ---- one phase
+
+-- 01: phases 0 to 3 in turn; the first edge has phase 0
+abbrev pub phase-of : ℕ → ℕ
+phase-of ordinal = (ordinal % 4 + 3) % 4
+
+-- 01: the sampled acceleration is the one last set
+unfoldable pub sampled : Input → ℕ → ℤ
+sampled input axis = cond (eqb axis 0) (input .x) (cond (eqb axis 1) (input .y) (input .z))
+
+-- 01: the code of an axis; bit 3 of 0a, self_test_1, makes it 0 (the Rust's rule)
+unfoldable pub converted : List ℕ → Input → ℕ → ℤ
+converted registers input axis =
+    cond (self-test-1 (at registers control)) (pos 0)
+    (code (sampled input axis) (offset (at registers (offset-lsb axis)) (at registers (offset-msb axis))) (range (at registers measurement)))
+
+-- 01: phase 0 sets temperature
+abbrev pub warmed : Conversion → Input → Conversion
+warmed c input = with-registers c (set (c .registers) temp (temperature (input .«temperature_millicelsius»)))
+
+-- the registers of an axis after a filtered code
+abbrev pub with-code : List ℕ → ℕ → ℤ → List ℕ
+with-code registers axis k = set (set registers (acc-lsb axis) (code-low k)) (acc-msb axis) (code-high k)
+
+-- a filtered code of an axis goes to its registers and to the criteria
+abbrev pub shown : Conversion → ℕ → Filter → ℤ → Conversion
+shown c axis f k =
+    record {
+      registers = with-code (c .registers) axis k;
+      sampling = with-filtered (c .sampling) f (set (c .sampling .filtered) axis k);
+      interrupts = I.axis (c .interrupts) axis k (with-code (c .registers) axis k);
+    }
+
+-- a code of an axis is filtered
+abbrev pub filtered-code : Conversion → ℕ → ℤ → Conversion
+filtered-code c axis k = shown c axis (pushed (c .sampling .filter) axis k) (answered (c .sampling .filter) axis k)
+
+-- phases 1 to 3 set the axes
+abbrev pub measured : Conversion → Input → ℕ → Conversion
+measured c input axis = filtered-code c axis (converted (c .registers) input axis)
+
+-- all three axes have new data
+unfoldable pub all-new : List ℕ → Bool
+all-new registers = new-data (at registers (acc-lsb 0)) && (new-data (at registers (acc-lsb 1)) && new-data (at registers (acc-lsb 2)))
+
+-- bit 5 of 15, new_data_INT, makes a scan of new data an interrupt
+unfoldable pub ready : List ℕ → Bool → Bool
+ready registers old = cond (new-data-INT (at registers operation) && all-new registers) true old
+
+-- the first observation after acquisition counts at once, later ones by the window (the Rust's rule)
+unfoldable pub interval : List ℕ → Sampling → ℕ
+interval registers s = cond (automatic registers && eqb (s .«auto_cycles») (acquisition-cycles (window (s .filter)))) 1 (window (s .filter))
+
+-- in automatic mode nothing is observed before acquisition (the Rust's rule)
+unfoldable pub observing : List ℕ → Sampling → Bool
+observing registers s = not (automatic registers) || acquired s
+
+-- a scan is counted
+abbrev pub counted : Conversion → Conversion
+counted c = with-sampling c (with-scan (c .sampling) (min (c .sampling .«auto_cycles» + 1) 65535) (ready (c .registers) (c .sampling .«data_ready»)))
+
+-- and observed for motion
+unfoldable pub observed : Conversion → List ℕ → Conversion
+observed c needs =
+    cond (observing (c .registers) (c .sampling))
+    (with-interrupts c (I.cycle (c .interrupts) (c .sampling .filtered) (interval (c .registers) (c .sampling)) (c .registers) needs))
+    c
+
+-- after z the scan is complete
+unfoldable pub scanned : Conversion → ℕ → List ℕ → Conversion
+scanned c axis needs = cond (eqb axis 2) (observed (counted c) needs) c
+
+-- ---- the self test: the axes are suspended; it ends at the first z phase once its phases have passed (the Rust's rule)
+
+abbrev pub one-less : ℕ → ℕ
+one-less n = n - 1
+
+unfoldable pub test-counted : Test → Test
+test-counted Off = Off
+test-counted (Phases n) = Phases (one-less n)
+
+-- bit 2 of 0a, self_test_0, is cleared and bit 7 of 09, st_result, set
+abbrev pub test-ended : Conversion → Conversion
+test-ended c = with-sampling
+    (with-registers c (set (set (c .registers) control (bitAnd (at (c .registers) control) 0xfb)) status (bitOr (at (c .registers) status) 0x80)))
+    (with-test (c .sampling) Off)
+
+unfoldable pub axis-phase : Test → Conversion → Input → ℕ → List ℕ → Conversion
+axis-phase Off c input phase needs = scanned (measured c input (phase - 1)) (phase - 1) needs
+axis-phase (Phases left) c input phase needs = cond (eqb phase 3 && eqb left 0) (test-ended c) c
+
+-- the phase of the clock's last edge (`sample_phase`)
+unfoldable pub sample-phase : Conversion → Input → List ℕ → Conversion
+sample-phase c input needs =
+    let t = test-counted (c .sampling .test) in
+    let d = with-sampling c (with-test (c .sampling) t) in
+    let phase = phase-of (c .sampling .clock .ordinal) in
+    cond (eqb phase 0) (warmed d input) (axis-phase t d input phase needs)
+
+-- ---- one edge of the clock
+
+-- a millisecond passes at every twelfth edge; in automatic mode not before acquisition (the Rust's rule)
+unfoldable pub ticks-now : Conversion → Bool
+ticks-now c = eqb (c .sampling .clock .ordinal % 12) 0 && observing (c .registers) (c .sampling)
+
+unfoldable pub ticked : Conversion → Conversion
+ticked c = cond (ticks-now c) (with-interrupts c (I.millisecond (c .interrupts) (c .registers))) c
+
+abbrev pub advanced : Conversion → Conversion
+advanced c = with-sampling c (with-clock (c .sampling) (C.advanced (c .sampling .clock) 1))
+
+-- the clock's next edge: its phase, and the millisecond (`sync_local_until`, `at_deadline`)
+unfoldable pub sample : Input → List ℕ → Conversion → Conversion
+sample input needs c = ticked (sample-phase (advanced c) input needs)
+
+-- so many edges
+abbrev pub samples : ℕ → Conversion → Input → List ℕ → Conversion
+samples n c input needs = iterate n (sample input needs) c

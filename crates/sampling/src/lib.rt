@@ -1,0 +1,3 @@
+// Sample phases (devices/bma150.rs: `sample_phase` and the loop of `sync_local_until`).
+pub mod phase;
+pub mod types;

@@ -1,0 +1,35 @@
+// What conversion needs and changes.
+use filter::Filter;
+use interrupts::Interrupts;
+use time::Clock;
+
+// The acceleration in millionths of g and the temperature in thousandths of a degree, as last set.
+pub struct Input {
+    pub x: i32,
+    pub y: i32,
+    pub z: i32,
+    pub temperature_millicelsius: i32,
+}
+
+// The self test, and how many phases it still lasts (the Rust's `test_phases`).
+pub enum Test {
+    Off,
+    Phases(u8),
+}
+
+pub struct Sampling {
+    pub filter: Filter,
+    pub filtered: [i16; 3],
+    pub clock: Clock,
+    pub asleep: bool,
+    pub auto_cycles: u16,
+    pub test: Test,
+    pub data_ready: bool,
+}
+
+// The part of the sensor that a sample phase changes.
+pub struct Conversion {
+    pub registers: [u8; 62],
+    pub sampling: Sampling,
+    pub interrupts: Interrupts,
+}
