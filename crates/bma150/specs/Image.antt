@@ -21,7 +21,7 @@ use Rattle.deadlines.specs.declared.Deadline.the-variants.{At, Never}
 use Rattle.deadlines.specs.declared.Deadlines.{Deadlines}
 use Rattle.deadlines.specs.Deadlines.{never, with-wake, with-serial-ready}
 use Rattle.control.specs.Waits.{acquisition-delay}
-use Rattle.registers.specs.Map.{at, measurement, operation, bandwidth, shadow-dis}
+use Rattle.registers.specs.Map.{at, chip-id, version, measurement, operation, bandwidth, shadow-dis}
 use Rattle.registers.specs.Access.{stored}
 use Rattle.sampling.specs.declared.types.Input.{Input}
 use Rattle.sampling.specs.declared.types.Test.the-variants as Test
@@ -70,7 +70,7 @@ copy-image s = configured s (image-copied (s .registers) (s .nonvolatile))
 
 -- registers after a reset: chip_id 2, version 10 hex, else 0 (the Rust's rule)
 abbrev pub reset-registers : List ℕ
-reset-registers = 2 ∷ 0x10 ∷ replicate 60 0
+reset-registers = set (set (replicate 62 0) chip-id 2) version 0x10
 
 -- 01: acceleration 0, 0, 1000000 and temperature 20000 (RUST-NOTES: the start's)
 abbrev pub still : Input

@@ -12,9 +12,11 @@ use i2c::types::State;
 use interrupts::Interrupts;
 use reads::Reads;
 use registers::access::stored;
+use registers::fields::CHIP_ID;
 use registers::fields::MEASUREMENT;
 use registers::fields::OPERATION;
 use registers::fields::SHADOW_DIS;
+use registers::fields::VERSION;
 use registers::fields::bandwidth;
 use registers::fields::has;
 use sampling::types::Input;
@@ -84,8 +86,8 @@ pub(crate) fn reset_registers() -> [u8; 62]
     ensures { λ r. ⌜ r ≡ Im.reset-registers ⌝ }
 {
     let mut r = [0; 62];
-    r[0] = 2;
-    r[1] = 0x10;
+    r[CHIP_ID] = 2;
+    r[VERSION] = 0x10;
     r
 }
 

@@ -92,10 +92,6 @@ new-data byte = bit byte 0
 
 -- ---- fields of 09
 
--- bit 7: st_result
-abbrev pub st-result : ℕ → Bool
-st-result byte = bit byte 7
-
 -- bit 4: alert_phase
 abbrev pub alert-phase : ℕ → Bool
 alert-phase byte = bit byte 4

@@ -1,5 +1,5 @@
 -- Sample phases: temperature, x, y, z, in turn at the clock's edges. Assumes nothing.
-use Prim.Native.Nat.{ℕ, _+_, _-_, _*_, _%_, min}
+use Prim.Native.Nat.{ℕ, _+_, _-_, _%_, min}
 use mathlib.Core.Bool.{Bool, true, cond, not, _&&_, _||_}
 use mathlib.Core.List.{List}
 use lib.Dec.{leb, eqb}
@@ -13,6 +13,7 @@ use Rattle.filter.specs.declared.Filter.{Filter}
 use Rattle.filter.specs.Filter.{window, pushed, answered}
 use Rattle.registers.specs.Map.{at, acc-lsb, acc-msb, temp, status, control, measurement, operation, offset-lsb, offset-msb, new-data, self-test-1, range, new-data-INT, wake-up}
 use Rattle.registers.specs.Codes.{offset, code, code-low, code-high, temperature}
+use Rattle.control.specs.Waits.{acquisition-cycles}
 use Rattle.interrupts.specs.declared.Interrupts.{Interrupts}
 use Rattle.interrupts.specs.State as I
 use Rattle.sampling.specs.declared.types.Input.{Input}
@@ -49,10 +50,6 @@ with-scan s n ready = record { filter = s .filter; filtered = s .filtered; clock
 -- bit 0 of 15, wake_up: the sensor wakes and pauses by itself
 abbrev pub automatic : List ℕ → Bool
 automatic registers = wake-up (at registers operation)
-
--- scans before the first observation after waking: 1 at window 1, else twice the window (the Rust's rule)
-unfoldable pub acquisition-cycles : ℕ → ℕ
-acquisition-cycles w = cond (eqb w 1) 1 (2 * w)
 
 -- the sensor has been awake for that many scans
 abbrev pub acquired : Sampling → Bool

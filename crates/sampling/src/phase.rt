@@ -6,6 +6,7 @@ use crate::types::Conversion;
 use crate::types::Input;
 use crate::types::Sampling;
 use crate::types::Test;
+use control::waits::acquisition_cycles;
 use registers::codes::code;
 use registers::codes::code_high;
 use registers::codes::code_low;
@@ -26,16 +27,6 @@ use registers::fields::TEMP;
 use registers::fields::WAKE_UP;
 use registers::fields::has;
 use registers::fields::range;
-
-// Scans before the first observation after waking.
-pub fn acquisition_cycles(window: u8) -> u16
-    ensures { λ r. ⌜ r ≡ P.acquisition-cycles window ⌝ }
-{
-    if window == 1 {
-        return 1;
-    }
-    2 * (window as u16)
-}
 
 fn sampled(input: Input, axis: u8) -> i32
     ensures { λ r. ⌜ r ≡ P.sampled input axis ⌝ }

@@ -1,4 +1,4 @@
-use Rattle.sampling.specs.Phase.{acquisition-cycles}
+use Rattle.control.specs.Waits.{acquisition-cycles}
 use Rattle.filter.specs.Filter.{window}
 use mathlib.Core.Path.{_≡_, ap, sym, _∙_}
 use Rattle.sampling.specs.Phase.{interval}
