@@ -7,3 +7,7 @@ pub mod Bytes
 pub mod Serial
 pub mod Supply
 pub mod Due
+pub mod Calls
+pub mod Values
+pub mod Accepted
+pub mod Order

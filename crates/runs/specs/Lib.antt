@@ -1,0 +1,5 @@
+pub mod Calls
+pub mod Lists
+pub mod Book
+pub mod Claim
+pub mod Replies

@@ -1,0 +1,40 @@
+-- Demand 3 over replies: a run whose every step is one that a relation allows. For the code the relation is the functions' own contracts. Assumes nothing.
+use Prim.Native.Nat.{ℕ}
+use mathlib.Core.Path.{_≡_}
+use mathlib.Core.List.{List, [], _∷_}
+use mathlib.Core.Option.{some}
+use Rattle.time.specs.declared.Time.{Time}
+use Rattle.bma150.specs.declared.types.Bma150.{Bma150}
+use Rattle.runs.specs.Calls.{Call, Declared, step, Answer, answer}
+use Rattle.runs.specs.Lists.{Start, started, AllDeclared, acceleration, temperature, Returns}
+use Rattle.runs.specs.Book.{opened, booked}
+use Rattle.runs.specs.Claim.{ending}
+
+-- which sensor and answer a call of a sensor may have, and which sensor a start may have
+pub record Host : Type 1 where
+  pub calls : Bma150 → Call → Bma150 → Answer → Type 0
+  pub starts : Start → Bma150 → Type 0
+
+-- each call gets the sensor that the call before it returned or left
+pub data Run (m : Host) : Bma150 → List Call → List Answer → Bma150 → Type 0 where
+  none : {s : Bma150} → Run m s [] [] s
+  next : {s t u : Bma150} {c : Call} {a : Answer} {cs : List Call} {out : List Answer} → m .calls s c t a → Run m t cs out u → Run m s (c ∷ cs) (a ∷ out) u
+
+-- its replies are the definitions', and there is one for each start and each call
+pub record Meets (m : Host) : Type 1 where
+  pub steps : {s t : Bma150} {c : Call} {a : Answer} → m .calls s c t a → (t ≡ step s c) × (a ≡ answer s c)
+  pub starting : {b : Start} {s : Bma150} → m .starts b s → s ≡ started b
+  pub replies : (s : Bma150) (c : Call) → Declared c → (t : Bma150) × (a : Answer) × m .calls s c t a
+
+-- the claim of `Claim`, of every such run; and there is one for every list
+pub record HostClaim (m : Host) : Type 1 where
+  pub kept : (b : Start) (cs : List Call) (now : Time) (rail : ℕ) → Returns b cs now rail
+      → {s t u : Bma150} {out : List Answer} {a : Answer} → m .starts b s → Run m s (ending cs now rail) out t → m .calls t (Call.stored-image now 19) u a
+      → a .put ≡ some (booked (opened b) (ending cs now rail) .cells)
+  pub same : (b d : Start) (cs ds : List Call) (now : Time) (rail power : ℕ) → Returns b cs now rail → Returns d ds now power
+      → {r s t u v w : Bma150} {o p : List Answer} {a e : Answer}
+      → m .starts b r → Run m r (ending cs now rail) o s → m .calls s (Call.stored-image now 19) t a
+      → m .starts d u → Run m u (ending ds now power) p v → m .calls v (Call.stored-image now 19) w e
+      → a .put ≡ e .put → acceleration b cs ≡ acceleration d ds → temperature b cs ≡ temperature d ds
+      → (further : List Call) {x y : Bma150} {f g : List Answer} → Run m s further f x → Run m v further g y → f ≡ g
+  pub run : (s : Bma150) (cs : List Call) → AllDeclared cs → (out : List Answer) × (t : Bma150) × Run m s cs out t
