@@ -1,20 +1,12 @@
--- The order of the refusals, M3, M11 and M12, computed: where several faults are there the first of 1, 3, 4, 2, 5, 6 is given. Assumes nothing.
+-- The order of the refusals, computed: where several faults are there the first of 1, 3, 4, 2, 5, 6 is given. Assumes nothing.
 use Prim.Native.Nat.{ℕ, _^_}
 use mathlib.Core.Path.{_≡_, refl}
-use mathlib.Core.Bool.{true, false}
 use mathlib.Core.List.{List, [], _∷_}
 use lib.IntN.{ℤ, pos}
 use Rattle.time.specs.declared.Time.{Time}
-use Rattle.time.specs.Time.{time}
 use Rattle.deadlines.specs.declared.Deadline.{Deadline}
 use Rattle.deadlines.specs.declared.Deadline.the-variants.{At, Never}
-use Rattle.deadlines.specs.Deadlines.{is-set, is-at, is-by, sooner, first, earliest}
-use Rattle.bma150.specs.declared.types.Bma150.{Bma150}
-use Rattle.bma150.specs.Record.{is-off}
-use Rattle.bma150.specs.Image.{from-nonvolatile, stock, shadowing}
-use Rattle.bma150.specs.Samples.{samples-run, next-sample, write-end, sample-due, next-deadline, interaction-deadline}
-use Rattle.bma150.specs.Serial.{may-select, selected-to}
-use Rattle.bma150.specs.Supply.{cut, lowered, raised, set-supply}
+use Rattle.deadlines.specs.Deadlines.{is-at, is-by, first}
 use Rattle.bma150.specs.Calls.{wrong-length, beyond, out-of-range, late, back, due-before, due-elsewhere, row, refusal-of-timed, refusal-of-start, refusal-of-accelerations, refusal-of-supply, refusal-of-rising, refusal-of-falling, refusal-of-pins, refusal-of-due, refusal-of-stored-image}
 
 -- whole seconds
@@ -60,17 +52,3 @@ pub record Ordered : Type 0 where
 pub ordered : Ordered
 unfolding wrong-length beyond out-of-range late back due-before due-elsewhere row refusal-of-timed refusal-of-start refusal-of-accelerations refusal-of-due refusal-of-stored-image is-at is-by
 ordered = record { start = refl; stored-image = refl; accelerations = refl; supply = refl; rising = refl; falling = refl; pins = refl; due = refl }
-
--- ---- M3 and M11, of a start at time 0 with the stock image
-
-abbrev new : Bma150
-new = from-nonvolatile (time 0) stock
-
-pub record Marked : Type 0 where
-  pub m3 : interaction-deadline new ≡ At (time 49191317529892137)
-  pub m11-off : is-off (set-supply new 2399 (time 0) .sensor) ≡ true
-  pub m11-on : is-off (set-supply new 2400 (time 0) .sensor) ≡ false
-
-pub marked : Marked
-unfolding is-set sooner first earliest samples-run next-sample write-end sample-due next-deadline may-select selected-to cut lowered raised set-supply shadowing
-marked = record { m3 = refl; m11-off = refl; m11-on = refl }
