@@ -72,7 +72,7 @@ copy-image s = configured s (image-copied (s .registers) (s .nonvolatile))
 abbrev pub reset-registers : List ℕ
 reset-registers = set (set (replicate 62 0) chip-id 2) version 0x10
 
--- 01: acceleration 0, 0, 1000000 and temperature 20000 (RUST-NOTES: the start's)
+-- the start's acceleration 0, 0, 1000000 and temperature 20000 (the Rust's `STILL` and `new`)
 abbrev pub still : Input
 still = record { x = pos 0; y = pos 0; z = pos 1000000; «temperature_millicelsius» = pos 20000 }
 
