@@ -8,6 +8,5 @@ pub mod Serial
 pub mod Supply
 pub mod Due
 pub mod Calls
+pub mod Lent
 pub mod Values
-pub mod Accepted
-pub mod Order

@@ -122,11 +122,11 @@ rising-at s mosi now = rising-effect (rise-synced s now) mosi now
 unfoldable pub fall-synced : Bma150 → Time → Bma150
 fall-synced s now = cond (spi-listens s && F.consumes-at-fall (s .frame) (four-wire s)) (sync-local-until s now true) s
 
-unfoldable pub falling : Bma150 → Bma150
-falling s = cond (not (is-dead s) && not (is-off s)) (shift-output s Clocked.Fall) s
+unfoldable pub falling-effect : Bma150 → Bma150
+falling-effect s = cond (not (is-dead s) && not (is-off s)) (shift-output s Clocked.Fall) s
 
 abbrev pub falling-at : Bma150 → Time → Bma150
-falling-at s now = falling (fall-synced s now)
+falling-at s now = falling-effect (fall-synced s now)
 
 -- ---- I2C report (`i2c_pins_at`)
 

@@ -91,6 +91,33 @@ pub(crate) fn reset_registers() -> [u8; 62]
     r
 }
 
+// The stock image.
+pub(crate) fn stock() -> [u8; 19]
+    ensures { λ r. ⌜ r ≡ Im.stock ⌝ }
+{
+    [
+        3,
+        20,
+        150,
+        160,
+        150,
+        0,
+        0,
+        162,
+        13,
+        14,
+        128,
+        0,
+        0,
+        0,
+        0,
+        128,
+        128,
+        128,
+        0,
+    ]
+}
+
 fn fresh_sampling(now: Time) -> Sampling
     ensures { λ r. ⌜ r ≡ Im.fresh-sampling now ⌝ }
 {

@@ -103,7 +103,7 @@ impl Bma150 {
     }
 
     // The hold of automatic mode, new data, or a criterion.
-    pub(crate) fn interrupt(self) -> bool
+    pub fn interrupt(self) -> bool
         ensures { λ r. ⌜ r ≡ C.interrupt self ⌝ }
     {
         let registers = self.registers;

@@ -1,6 +1,7 @@
 // The serial pins: select, SPI edges, I2C reports, and what the pins show.
 ghost use mathlib.Core.Path.{_≡_};
 ghost use Rattle.i2c.specs.Bus as Bus;
+ghost use Rattle.bma150.specs.Calls as K;
 ghost use Rattle.bma150.specs.Serial as Z;
 use crate::types::Bma150;
 use crate::types::Fetched;
@@ -106,8 +107,8 @@ impl Bma150 {
     }
 
     // The four-wire output.
-    pub(crate) fn output(self) -> Drive
-        ensures { λ r. ⌜ r ≡ Z.output self ⌝ }
+    pub fn output(self) -> Drive
+        ensures { λ r. ⌜ K.drive-letter r ≡ K.drive-letter (Z.output self) ⌝ }
     {
         let f = self.frame;
         let driven = f.driven;
@@ -137,8 +138,8 @@ impl Bma150 {
     }
 
     // The data pin.
-    pub(crate) fn data_output(self) -> Drive
-        ensures { λ r. ⌜ r ≡ Z.data-output self ⌝ }
+    pub fn data_output(self) -> Drive
+        ensures { λ r. ⌜ K.drive-letter r ≡ K.drive-letter (Z.data-output self) ⌝ }
     {
         let f = self.frame;
         let driven = f.driven;
@@ -282,8 +283,8 @@ impl Bma150 {
         self
     }
 
-    fn falling(self) -> Bma150
-        ensures { λ r. ⌜ r ≡ Z.falling self ⌝ }
+    fn falling_effect(self) -> Bma150
+        ensures { λ r. ⌜ r ≡ Z.falling-effect self ⌝ }
     {
         if self.is_dead() {
             return self;
@@ -298,7 +299,7 @@ impl Bma150 {
         ensures { λ r. ⌜ r ≡ Z.falling-at self now ⌝ }
     {
         let s = self.fall_synced(now);
-        s.falling()
+        s.falling_effect()
     }
 
     fn i2c_listens(self) -> bool

@@ -5,6 +5,7 @@ use i2c::types::State;
 use interrupts::Interrupts;
 use nv::WriteCycle;
 use reads::Reads;
+use refusals::types::Outcome;
 use sampling::types::Input;
 use sampling::types::Sampling;
 use spi::types::Frame;
@@ -64,4 +65,23 @@ pub enum View {
 pub struct Fetched {
     pub sensor: Bma150,
     pub sent: Sent,
+}
+
+// The sensor and the answer of a call.
+pub struct Replied {
+    pub sensor: Bma150,
+    pub outcome: Outcome,
+}
+
+// Those of a call that may report the end of a stored write.
+pub struct Reported {
+    pub sensor: Bma150,
+    pub outcome: Outcome,
+    pub report: Report,
+}
+
+// The answer of a lent due call: the sensor stays where the host keeps it.
+pub struct Answered {
+    pub outcome: Outcome,
+    pub report: Report,
 }

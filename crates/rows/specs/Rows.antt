@@ -24,7 +24,7 @@ use Rattle.bma150.specs.Image.{from-nonvolatile, stock, shadowing}
 use Rattle.bma150.specs.Samples.{samples-run, next-sample, write-end, sample-due, next-deadline, interaction-deadline}
 use Rattle.bma150.specs.Serial.{may-select, selected-to}
 use Rattle.bma150.specs.Supply as Supply
-use Rattle.bma150.specs.Calls.{beyond, out-of-range, late, back, due-before, row, refusal-of-accelerations}
+use Rattle.refusals.specs.Table.{beyond, out-of-range, late, back, due-before, row, refusal-of-accelerations}
 
 -- M1, M2: an edge of a clock that starts at 0, in units
 abbrev edge-at : ℕ → ℤ

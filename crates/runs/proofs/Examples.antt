@@ -28,6 +28,7 @@ use Rattle.bma150.specs.Samples as BS
 use Rattle.bma150.specs.Serial as BE
 use Rattle.bma150.specs.Supply as BU
 use Rattle.bma150.specs.Due as BD
+use Rattle.refusals.specs.Table as T
 use Rattle.bma150.specs.Calls as C
 use Rattle.runs.specs.Calls as RC
 use Rattle.runs.specs.Lists as RL
@@ -109,7 +110,7 @@ record Computed : Type 0 where
   same-temperature : temperature stock-start two-writes ≡ temperature other-start no-write
 
 computed : Computed
-unfolding NC.mixed NC.low-half NC.threshold NC.crossing NC.bits-where NC.byte RA.unwritable RA.working RA.stored RA.image-blocks RA.sleep-blocks RA.locked RA.ignores RA.begins DD.is-set DD.is-at DD.is-by DD.sooner DD.unless-at DD.first DD.earliest CW.written-control CW.written-register CW.written CW.self-test CW.sleep SF.differs SF.reads SF.acknowledges SF.addressed SF.completed SF.take-bit SF.moves SF.shifts SF.consumes-at-rise BR.runs BI.cell BI.with-cell BC.pause-end BC.automatic-control BW.interrupts-written BW.tested BW.slept BW.image-written BW.applied BW.taken BS.samples-run BS.next-sample BS.write-end BS.sample-due BS.next-deadline BS.limit BS.advanced BS.lags BS.sync-local-until BE.selected-to BE.may-select BE.moved BE.first-bit BE.write-done BE.spi-listens BE.rising-effect BE.rise-synced BU.cut BU.drained BU.returned BU.lowered BU.raised BU.set-supply BD.pause-ended BD.write-ended BD.image-ended BD.wake-ended BD.sample-ended C.wrong-length C.late C.back C.due-before C.due-elsewhere C.row C.refusal-of-timed C.refusal-of-start C.refusal-of-due C.unless-refused C.after-start C.after-supply C.after-due C.after-rising RC.number RC.step RL.after RL.accepted RL.zeroed RL.met-zero RL.set-acceleration RL.last-acceleration RL.set-temperature RL.last-temperature RB.operation RB.spi-write RB.completing RB.cutting RB.supplied RB.runs RB.accepted-write RB.of-write RB.began RB.changed RB.entered RB.booked
+unfolding NC.mixed NC.low-half NC.threshold NC.crossing NC.bits-where NC.byte RA.unwritable RA.working RA.stored RA.image-blocks RA.sleep-blocks RA.locked RA.ignores RA.begins DD.is-set DD.is-at DD.is-by DD.sooner DD.unless-at DD.first DD.earliest CW.written-control CW.written-register CW.written CW.self-test CW.sleep SF.differs SF.reads SF.acknowledges SF.addressed SF.completed SF.take-bit SF.moves SF.shifts SF.consumes-at-rise BR.runs BI.cell BI.with-cell BC.pause-end BC.automatic-control BW.interrupts-written BW.tested BW.slept BW.image-written BW.applied BW.taken BS.samples-run BS.next-sample BS.write-end BS.sample-due BS.next-deadline BS.limit BS.advanced BS.lags BS.sync-local-until BE.selected-to BE.may-select BE.moved BE.first-bit BE.write-done BE.spi-listens BE.rising-effect BE.rise-synced BU.cut BU.drained BU.returned BU.lowered BU.raised BU.set-supply BD.pause-ended BD.write-ended BD.image-ended BD.wake-ended BD.sample-ended T.wrong-length T.late T.back T.due-before T.due-elsewhere T.row T.refusal-of-timed T.refusal-of-start T.refusal-of-due T.unless-refused C.after-start C.after-supply C.after-due C.after-rising RC.number RC.step RL.after RL.accepted RL.zeroed RL.met-zero RL.set-acceleration RL.last-acceleration RL.set-temperature RL.last-temperature RB.operation RB.spi-write RB.completing RB.cutting RB.supplied RB.runs RB.accepted-write RB.of-write RB.began RB.changed RB.entered RB.booked
 computed = record { first-accepted = refl; first-returns = refl; first-from-zero = refl; first-book = refl; second-accepted = refl; second-returns = refl; second-from-zero = refl; second-book = refl; not-from-zero = refl; same-acceleration = refl; same-temperature = refl }
 
 -- ---- the arguments are of their declared types

@@ -37,7 +37,7 @@ use Rattle.bma150.specs.Control.{criterion, may-sleep, paused-again, held, veri
 use Rattle.bma150.specs.Writes.{put, recounted, interrupts-reset, interrupts-written, tested, slept, image-written, control-written, mode-written, operation-written, applied, followed}
 use Rattle.bma150.specs.Samples.{advanced, lags, sync-local-until}
 use Rattle.bma150.specs.Bytes.{fetched, notes, noted}
-use Rattle.bma150.specs.Serial.{spi-listens, i2c-listens, reselected, selected-to, moved, shift-output, rise-synced, fall-synced, falling, falling-at, pins-synced}
+use Rattle.bma150.specs.Serial.{spi-listens, i2c-listens, reselected, selected-to, moved, shift-output, rise-synced, fall-synced, falling-effect, falling-at, pins-synced}
 use Rattle.bma150.specs.Supply.{woken}
 use Rattle.bma150.specs.Due.{sample-is, waits-ended, pause-ended, image-ended, wake-ended, sample-ended, sample-served}
 
@@ -215,7 +215,7 @@ unfolding fall-synced
 fall-synced-keeps s now = pick (spi-listens s && F.consumes-at-fall (s .frame) (four-wire s)) (sync-keeps s now true) (itself s)
 
 pub falling-keeps : (s : Bma150) (now : Time) → Keeps s (falling-at s now)
-unfolding falling
+unfolding falling-effect
 falling-keeps s now =
     let t = fall-synced s now in
     then (fall-synced-keeps s now) (pick (not (is-dead t) && not (is-off t)) (shift-keeps t _) (itself t))

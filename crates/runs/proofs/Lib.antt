@@ -7,3 +7,4 @@ pub mod Lists
 pub mod Examples
 pub mod Buffer
 pub mod Replies
+pub mod Functions

@@ -17,6 +17,8 @@ use Rattle.bma150.specs.declared.types.Bma150.{Bma150}
 use Rattle.bma150.specs.Record.{with-last, is-off}
 use Rattle.bma150.specs.Image.{image-at, nonvolatile, from-nonvolatile, powered}
 use Rattle.bma150.specs.Supply.{silently, lowered, raised, returned, cold-return, warm-return, set-supply}
+use Rattle.refusals.specs.Table as T
+use Rattle.refusals.specs.Left.{accepted-is, refused-is}
 use Rattle.bma150.specs.Calls as C
 use Rattle.runs.specs.Calls.{Call, Declared, number, accepts, step, put}
 use Rattle.runs.specs.Lists.{Start, started, after, answers, accepted, AllDeclared, met-zero, Acceleration, last-acceleration, last-temperature, acceleration, temperature, Returns}
@@ -28,14 +30,6 @@ use Rattle.runs.proofs.Sound.{running-of, read, filled-read, Sound, tim
 use Rattle.runs.proofs.Steps.{acceleration-of, Moved, moved-accelerations, moved-falling, moved-temperature, moved-select, moved-view, moved-stored-image, moved-due, moved-due-lent, moved-supply, moved-rising, moved-pins, moved-pins-lent}
 
 -- ---- one call
-
-accepted-is : {A : Type 0} (n : ℕ) (x y : A) → eqb n 0 ≡ true → C.unless-refused n x y ≡ y
-unfolding C.unless-refused
-accepted-is n x y p = ap (λ (b : Bool). cond b y x) p
-
-refused-is : {A : Type 0} (n : ℕ) (x y : A) → eqb n 0 ≡ false → C.unless-refused n x y ≡ x
-unfolding C.unless-refused
-refused-is n x y p = ap (λ (b : Bool). cond b y x) p
 
 -- a refused call leaves the sensor
 refused : (s : Bma150) (c : Call) → accepts s c ≡ false → step s c ≡ s
@@ -55,10 +49,10 @@ refused s (Call.stored-image now length) p = refl
 
 -- an accepted one moves sensor and book alike
 moved : (s : Bma150) → Sound (core s) → (c : Call) → Declared c → accepts s c ≡ true → Moved (core s) (core (step s c)) c (changed (read s) s c)
-unfolding number step C.after-accelerations C.after-supply C.after-due C.after-rising C.after-falling C.after-pins C.refusal-of-accelerations
+unfolding number step C.after-accelerations C.after-supply C.after-due C.after-rising C.after-falling C.after-pins T.refusal-of-accelerations
 moved s h (Call.accelerations now x y z) d p =
     subst (λ (t : Bma150). Moved (core s) (core t) (Call.accelerations now x y z) (changed (read s) s (Call.accelerations now x y z))) (sym (accepted-is _ s _ p))
-    (moved-accelerations s h now x y z (accelerations-accepted s now (C.out-of-range x y z) p))
+    (moved-accelerations s h now x y z (accelerations-accepted s now (T.out-of-range x y z) p))
 moved s h (Call.temperature t) d p = moved-temperature s h t
 moved s h (Call.supply now rail) d p =
     subst (λ (t : Bma150). Moved (core s) (core t) (Call.supply now rail) (changed (read s) s (Call.supply now rail))) (sym (accepted-is _ s _ p))
@@ -190,9 +184,9 @@ returns-cold u rail now p q r = go (ltb rail 2400) (is-off u) (u .supply .cold) 
     go false false cold x y z = absurd (let w : _≡_ {A = ℕ} 0 1 = cc in omega arith)
 
 -- the stored-image call at that time hands out the bytes
-hands-out : (now : Time) (cells : List ℕ) (input : Input) → C.late now ≡ false → put (fresh now cells input) (Call.stored-image now 19) ≡ some cells
-unfolding put C.unless-refused C.refusal-of-stored-image C.row C.wrong-length C.back image-at
-hands-out now cells input p = go (C.late now) (ltb (ticks now) (ticks now)) p (le-ltb (ticks now) (ticks now) (le-refl (ticks now)))
+hands-out : (now : Time) (cells : List ℕ) (input : Input) → T.late now ≡ false → put (fresh now cells input) (Call.stored-image now 19) ≡ some cells
+unfolding put T.unless-refused T.refusal-of-stored-image T.row T.wrong-length T.back image-at
+hands-out now cells input p = go (T.late now) (ltb (ticks now) (ticks now)) p (le-ltb (ticks now) (ticks now) (le-refl (ticks now)))
   where
     go : (a b : Bool) → a ≡ false → b ≡ false → cond (eqb (cond a 3 (cond b 4 0)) 0) (some cells) none ≡ some cells
     go true b x y = cc
@@ -233,7 +227,7 @@ module _ (b : Start) (cs : List Call) (now : Time) (rail : ℕ) (h : Returns b c
       (ap (λ (k : Core). k .supply .cold) before-keeps ∙ is-cold)
       ∙ ap (λ (k : Core). powered now (k .cells) (k .input)) before-keeps)
 
-  early : C.late now ≡ false
+  early : T.late now ≡ false
   unfolding number
   early = timed-accepted before now (h .supply-accepted) .early
 

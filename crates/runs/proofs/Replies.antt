@@ -45,7 +45,7 @@ module _ (m : Host) (h : Meets m) where
         ∙ ap (λ (s : Bma150). answers s further) (left-is b cs now rail p q)
         ∙ claim .same b d cs ds now rail power g k (sym (put-is b cs now rail p q r) ∙ bytes ∙ put-is d ds now power x y z) acceleration temperature further
         ∙ sym (ran-is e .0 ∙ ap (λ (s : Bma150). answers s further) (left-is d ds now power x y));
-    run = runs-on;
+    run = λ b cs d. let p = h .begins b in let q = runs-on (p .0) cs d in (p .0, p .1, q .0, q .1, q .2);
   }
 
 -- the definitions themselves are such a host, so the claim is of something
@@ -53,4 +53,4 @@ abbrev definitions : Host
 definitions = record { calls = λ s c t a. (t ≡ step s c) × (a ≡ answer s c); starts = λ b s. s ≡ started b }
 
 pub definitions-meet : Meets definitions
-definitions-meet = record { steps = λ p. p; starting = λ p. p; replies = λ s c d. (step s c, answer s c, (refl, refl)) }
+definitions-meet = record { steps = λ p. p; starting = λ p. p; replies = λ s c d. (step s c, answer s c, (refl, refl)); begins = λ b. (started b, refl) }

@@ -25,7 +25,7 @@ use Rattle.bma150.specs.declared.types.Bma150.{Bma150}
 use Rattle.bma150.specs.Record.{with-writing, is-off, automatic}
 use Rattle.bma150.specs.Record as Record
 use Rattle.bma150.specs.Samples.{write-end, sample-due, next-deadline, interaction-deadline}
-use Rattle.bma150.specs.Calls as C
+use Rattle.refusals.specs.Table as T
 use Rattle.runs.specs.Book.{Running, Book, book, struck, operation, filled, completing, completed, closed}
 use Rattle.runs.specs.Book as B
 use Rattle.runs.proofs.Keeps.{Core, core}
@@ -145,20 +145,20 @@ over-now s h now d w a v e =
 plus-lt : (a b d m : ℕ) → a < b → b + d ≤ m → a + d < m
 plus-lt a b d m p q = omega arith
 
-pub end-fits : (now : Time) → C.late now ≡ false → now .1 < 2 ^ 64 → ticks now + write-length < 2 ^ 128
-unfolding C.late
+pub end-fits : (now : Time) → T.late now ≡ false → now .1 < 2 ^ 64 → ticks now + write-length < 2 ^ 128
+unfolding T.late
 end-fits now p q = plus-lt (ticks now) (2 ^ 32 * 2 ^ 64) write-length (2 ^ 128) (digits-lt (leb-false (2 ^ 32) (now .0) p) q) (lit≤ tt)
 
 -- ---- acceptance
 
 pub record Timely (s : Bma150) (now : Time) : Type 0 where
-  pub early : C.late now ≡ false
+  pub early : T.late now ≡ false
   pub free : is-by (interaction-deadline s) now ≡ false
 
-pub timed-accepted : (s : Bma150) (now : Time) → eqb (C.refusal-of-timed (s .last) (interaction-deadline s) now) 0 ≡ true → Timely s now
-unfolding C.refusal-of-timed C.row C.due-before
+pub timed-accepted : (s : Bma150) (now : Time) → eqb (T.refusal-of-timed (s .last) (interaction-deadline s) now) 0 ≡ true → Timely s now
+unfolding T.refusal-of-timed T.row T.due-before
 timed-accepted s now p =
-    let r = go (C.late now) (C.back (s .last) now) (is-by (interaction-deadline s) now) p in
+    let r = go (T.late now) (T.back (s .last) now) (is-by (interaction-deadline s) now) p in
     record { early = r .0; free = r .1 }
   where
     go : (a b c : Bool) → eqb (cond a 3 (cond b 4 (cond c 5 0))) 0 ≡ true → (a ≡ false) × (c ≡ false)
@@ -168,10 +168,10 @@ timed-accepted s now p =
     go false false false q = (refl, refl)
 
 pub accelerations-accepted : (s : Bma150) (now : Time) (out : Bool)
-    → eqb (C.in-order (s .last) now (C.row out 2 (C.row (C.due-before (interaction-deadline s) now) 5 0))) 0 ≡ true → Timely s now
-unfolding C.row C.due-before
+    → eqb (T.in-order (s .last) now (T.row out 2 (T.row (T.due-before (interaction-deadline s) now) 5 0))) 0 ≡ true → Timely s now
+unfolding T.row T.due-before
 accelerations-accepted s now out p =
-    let r = go (C.late now) (C.back (s .last) now) out (is-by (interaction-deadline s) now) p in
+    let r = go (T.late now) (T.back (s .last) now) out (is-by (interaction-deadline s) now) p in
     record { early = r .0; free = r .1 }
   where
     go : (a b o c : Bool) → eqb (cond a 3 (cond b 4 (cond o 2 (cond c 5 0)))) 0 ≡ true → (a ≡ false) × (c ≡ false)
@@ -181,9 +181,9 @@ accelerations-accepted s now out p =
     go false false false true q = (refl, cc)
     go false false false false q = (refl, refl)
 
-pub due-accepted : (s : Bma150) (now : Time) → eqb (C.refusal-of-due (s .last) (interaction-deadline s) now) 0 ≡ true → is-at (interaction-deadline s) now ≡ true
-unfolding C.refusal-of-due C.row C.due-elsewhere
-due-accepted s now p = go (C.late now) (C.back (s .last) now) (is-at (interaction-deadline s) now) p
+pub due-accepted : (s : Bma150) (now : Time) → eqb (T.refusal-of-due (s .last) (interaction-deadline s) now) 0 ≡ true → is-at (interaction-deadline s) now ≡ true
+unfolding T.refusal-of-due T.row T.due-elsewhere
+due-accepted s now p = go (T.late now) (T.back (s .last) now) (is-at (interaction-deadline s) now) p
   where
     go : (a b c : Bool) → eqb (cond a 3 (cond b 4 (cond (not c) 6 0))) 0 ≡ true → c ≡ true
     go true b c q = cc

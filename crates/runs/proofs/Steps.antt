@@ -26,6 +26,7 @@ use Rattle.bma150.specs.Record as Record
 use Rattle.bma150.specs.Image.{with-cell}
 use Rattle.bma150.specs.Samples.{interaction-deadline}
 use Rattle.bma150.specs.Serial.{may-select, spi-listens, i2c-listens, ones-for}
+use Rattle.refusals.specs.Table as T
 use Rattle.bma150.specs.Calls as C
 use Rattle.runs.specs.Calls.{Call}
 use Rattle.runs.specs.Lists.{zeroed, Acceleration, set-acceleration, set-temperature}
@@ -222,7 +223,7 @@ module _ (s : Bma150) (h : Sound (core s)) where
 
   -- ---- pin calls
 
-  write-moved : (u : Bma150) → Keeps s u → (w : Write) (now : Time) → C.late now ≡ false → now .1 < 2 ^ 64
+  write-moved : (u : Bma150) → Keeps s u → (w : Write) (now : Time) → T.late now ≡ false → now .1 < 2 ^ 64
       → ((a v : ℕ) → w ≡ Write.Register a v → is-off s ≡ false)
       → Ended (at-time (with-running (core s) (begun-writing w u now)) now) (began (read s) w u now)
   unfolding began of-write operation

@@ -18,6 +18,7 @@ use Rattle.bma150.specs.Image.{nonvolatile}
 use Rattle.bma150.specs.Control.{interrupt}
 use Rattle.bma150.specs.Samples.{interaction-deadline}
 use Rattle.bma150.specs.Serial.{output, data-output}
+use Rattle.refusals.specs.Table as T
 use Rattle.bma150.specs.Calls as C
 
 -- ---- a call and its arguments; of an image buffer only the length counts (01)
@@ -62,16 +63,16 @@ Declared (Call.stored-image now length) = Words now × (length < 2 ^ 64)
 -- acceptance, 0, or the refusal's number; temperature, select and view have no refusal
 unfoldable pub number : Bma150 → Call → ℕ
 number s (Call.accelerations now x y z) = C.accelerations-number s now x y z
-number s (Call.temperature t) = C.no-refusal
+number s (Call.temperature t) = T.no-refusal
 number s (Call.supply now rail) = C.supply-number s now
 number s (Call.due now) = C.due-number s now
 number s (Call.due-lent now) = C.due-number s now
-number s (Call.select on) = C.no-refusal
+number s (Call.select on) = T.no-refusal
 number s (Call.rising now mosi) = C.rising-number s now
 number s (Call.falling now) = C.falling-number s now
 number s (Call.pins now before after) = C.pins-number s now
 number s (Call.pins-lent now before after) = C.pins-number s now
-number s (Call.view address) = C.no-refusal
+number s (Call.view address) = T.no-refusal
 number s (Call.stored-image now length) = C.stored-image-number s now length
 
 abbrev pub accepts : Bma150 → Call → Bool
@@ -135,7 +136,7 @@ put s (Call.falling now) = none
 put s (Call.pins now before after) = none
 put s (Call.pins-lent now before after) = none
 put s (Call.view address) = none
-put s (Call.stored-image now length) = C.unless-refused (C.stored-image-number s now length) none (some (nonvolatile s now))
+put s (Call.stored-image now length) = T.unless-refused (C.stored-image-number s now length) none (some (nonvolatile s now))
 
 -- 01: answers compared; the pins and next due are those after the call
 pub record Answer : Type 0 where

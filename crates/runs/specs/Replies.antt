@@ -25,8 +25,9 @@ pub record Meets (m : Host) : Type 1 where
   pub steps : {s t : Bma150} {c : Call} {a : Answer} → m .calls s c t a → (t ≡ step s c) × (a ≡ answer s c)
   pub starting : {b : Start} {s : Bma150} → m .starts b s → s ≡ started b
   pub replies : (s : Bma150) (c : Call) → Declared c → (t : Bma150) × (a : Answer) × m .calls s c t a
+  pub begins : (b : Start) → (s : Bma150) × m .starts b s
 
--- the claim of `Claim`, of every such run; and there is one for every list
+-- the claim of `Claim`, of every such run; and there is one for every start and every list
 pub record HostClaim (m : Host) : Type 1 where
   pub kept : (b : Start) (cs : List Call) (now : Time) (rail : ℕ) → Returns b cs now rail
       → {s t u : Bma150} {out : List Answer} {a : Answer} → m .starts b s → Run m s (ending cs now rail) out t → m .calls t (Call.stored-image now 19) u a
@@ -37,4 +38,4 @@ pub record HostClaim (m : Host) : Type 1 where
       → m .starts d u → Run m u (ending ds now power) p v → m .calls v (Call.stored-image now 19) w e
       → a .put ≡ e .put → acceleration b cs ≡ acceleration d ds → temperature b cs ≡ temperature d ds
       → (further : List Call) {x y : Bma150} {f g : List Answer} → Run m s further f x → Run m v further g y → f ≡ g
-  pub run : (s : Bma150) (cs : List Call) → AllDeclared cs → (out : List Answer) × (t : Bma150) × Run m s cs out t
+  pub run : (b : Start) (cs : List Call) → AllDeclared cs → (s : Bma150) × m .starts b s × (out : List Answer) × (t : Bma150) × Run m s cs out t

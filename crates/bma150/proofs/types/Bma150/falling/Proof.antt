@@ -1,31 +1,56 @@
-use Rattle.bma150.specs.Serial.{falling}
+use Rattle.refusals.specs.Table.{number, refusal-of-timed, unless-refused}
+use Rattle.bma150.specs.Calls.{falling-number, after-falling}
+use Rattle.deadlines.specs.declared.Deadline.{Deadline}
+use mathlib.Core.Path.{_≡_, ap, sym, _∙_}
+use Rattle.bma150.specs.Calls.{after-falling}
 use mathlib.Core.Path.{sym, _∙_}
 use borrow.Author.Needs.{needs}
 use Rattle.bma150.proofs.types.Bma150.falling.Statement.{statement}
 use Rattle.bma150.proofs.types.Bma150.falling.Tie as tie
 
-is-dead-requires : tie.Need-is-dead-requires
-is-dead-requires c κs = search needs
+interaction-deadline-requires : tie.Need-interaction-deadline-requires
+interaction-deadline-requires c κs = search needs
+
+refusal-of-timed-requires : tie.Need-refusal-of-timed-requires
+refusal-of-timed-requires c κs = search needs
+
+is-accepted-requires : tie.Need-is-accepted-requires
+is-accepted-requires c κs = search needs
+
+sync-local-until-requires : tie.Need-sync-local-until-requires
+sync-local-until-requires c κs = search needs
+
+falling-at-requires : tie.Need-falling-at-requires
+falling-at-requires c κs = search needs
 
 returns : tie.Need-returns
-unfolding falling
-returns c = simp (sym (c .before .is-dead .ensures) ∙ c .if1 .taken)
-
-is-off-requires : tie.Need-is-off-requires
-is-off-requires c κs = search needs
+unfolding after-falling unless-refused
+returns c =
+    let s = c .before .before .before .before .before .before .before .args .self in
+    let now = c .before .before .before .before .before .before .before .args .now in
+    let x = c .before .before .before .before .before .before .before .args in
+    let n : number (c .before .before .before .before .refusal-of-timed .result) ≡ falling-number s now = c .before .before .before .before .refusal-of-timed .ensures ∙ ap (λ (d : Deadline). refusal-of-timed (s .last) d now) (c .before .before .before .before .before .interaction-deadline .ensures) in
+    let e = sym (c .before .before .before .is-accepted .ensures) ∙ c .before .before .if1 .taken in
+    (n, rw (← n, e, c .falling-at .ensures, c .before .sync-local-until .ensures))
 
 returns-2 : tie.Need-returns-2
-unfolding falling
-returns-2 c = simp (sym (c .before .is-off .ensures) ∙ c .if2 .taken, sym (c .before .before .before .is-dead .ensures) ∙ c .before .before .if1 .left)
-
-shift-output-requires : tie.Need-shift-output-requires
-shift-output-requires c κs = search needs
-
-returns-3 : tie.Need-returns-3
-unfolding falling
-returns-3 c = simp (c .shift-output .ensures, sym (c .before .before .is-off .ensures) ∙ c .before .if2 .left, sym (c .before .before .before .before .is-dead .ensures) ∙ c .before .before .before .if1 .left)
+unfolding after-falling unless-refused
+returns-2 c =
+    let s = c .before .before .before .before .before .args .self in
+    let now = c .before .before .before .before .before .args .now in
+    let x = c .before .before .before .before .before .args in
+    let n : number (c .before .before .refusal-of-timed .result) ≡ falling-number s now = c .before .before .refusal-of-timed .ensures ∙ ap (λ (d : Deadline). refusal-of-timed (s .last) d now) (c .before .before .before .interaction-deadline .ensures) in
+    let e = sym (c .before .is-accepted .ensures) ∙ c .if1 .left in
+    (n, rw (← n, e))
 
 pub falling-spec : {M : Type 1} → statement M
 falling-spec =
     tie.close
-    (tie.spec is-dead-requires returns is-off-requires returns-2 shift-output-requires returns-3)
+    (tie.spec
+    interaction-deadline-requires
+    refusal-of-timed-requires
+    is-accepted-requires
+    sync-local-until-requires
+    falling-at-requires
+    returns
+    returns-2)

@@ -5,11 +5,11 @@ use Rattle.bma150.proofs.types.Bma150.falling_at.Tie as tie
 fall-synced-requires : tie.Need-fall-synced-requires
 fall-synced-requires c κs = search needs
 
-falling-requires : tie.Need-falling-requires
-falling-requires c κs = search needs
+falling-effect-requires : tie.Need-falling-effect-requires
+falling-effect-requires c κs = search needs
 
 returns : tie.Need-returns
-returns c = simp (c .falling .ensures, c .before .fall-synced .ensures)
+returns c = simp (c .falling-effect .ensures, c .before .fall-synced .ensures)
 
 pub falling-at-spec : {M : Type 1} → statement M
-falling-at-spec = tie.close (tie.spec fall-synced-requires falling-requires returns)
+falling-at-spec = tie.close (tie.spec fall-synced-requires falling-effect-requires returns)

@@ -7,7 +7,7 @@ use Rattle.time.specs.declared.Time.{Time}
 use Rattle.deadlines.specs.declared.Deadline.{Deadline}
 use Rattle.deadlines.specs.declared.Deadline.the-variants.{At, Never}
 use Rattle.deadlines.specs.Deadlines.{is-at, is-by, first}
-use Rattle.bma150.specs.Calls.{wrong-length, beyond, out-of-range, late, back, due-before, due-elsewhere, row, refusal-of-timed, refusal-of-start, refusal-of-accelerations, refusal-of-supply, refusal-of-rising, refusal-of-falling, refusal-of-pins, refusal-of-due, refusal-of-stored-image}
+use Rattle.refusals.specs.Table.{wrong-length, beyond, out-of-range, late, back, due-before, due-elsewhere, row, refusal-of-timed, refusal-of-start, refusal-of-accelerations, refusal-of-supply, refusal-of-rising, refusal-of-falling, refusal-of-pins, refusal-of-due, refusal-of-stored-image}
 
 -- whole seconds
 abbrev s : ℕ → Time

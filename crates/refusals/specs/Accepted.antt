@@ -3,16 +3,14 @@ use Prim.Native.Nat.{ℕ, _^_, _≤_, _<_}
 use native.Mathlib.Omega.{arith}
 use mathlib.Core.Path.{_≡_, refl, ap}
 use mathlib.Core.Bool.{Bool, true, false, not, _||_}
-use mathlib.Core.List.{List}
 use lib.Dec.{eqb}
-use lib.ListN.{length}
 use lib.IntN.{ℤ, pos, negsuc, natAbs}
 use borrow.Author.Tests.{le-ltb, lt-leb}
 use Rattle.time.specs.declared.Time.{Time}
 use Rattle.time.specs.Time.{ticks}
 use Rattle.deadlines.specs.declared.Deadline.{Deadline}
 use Rattle.deadlines.specs.Deadlines.{is-at, is-by}
-use Rattle.bma150.specs.Calls.{wrong-length, beyond, out-of-range, late, back, due-before, due-elsewhere, row, refusal-of-timed, refusal-of-start, refusal-of-accelerations, refusal-of-supply, refusal-of-rising, refusal-of-falling, refusal-of-pins, refusal-of-due, refusal-of-stored-image, start-number}
+use Rattle.refusals.specs.Table.{wrong-length, beyond, out-of-range, late, back, due-before, due-elsewhere, row, refusal-of-timed, refusal-of-start, refusal-of-accelerations, refusal-of-supply, refusal-of-rising, refusal-of-falling, refusal-of-pins, refusal-of-due, refusal-of-stored-image}
 
 -- an axis within ±1,000,000,000
 pub in-range : (axis : ℤ) → natAbs axis ≤ 1000000000 → beyond axis ≡ false
@@ -41,9 +39,9 @@ unfolding wrong-length
 right-length n p = ap (λ (x : ℕ). not (eqb x 19)) p
 
 -- a start: 19 bytes, below 2^32 s
-pub start-accepted : (now : Time) (image : List ℕ) → length image ≡ 19 → now .0 < 2 ^ 32 → start-number now image ≡ 0
+pub start-accepted : (now : Time) (n : ℕ) → n ≡ 19 → now .0 < 2 ^ 32 → refusal-of-start now n ≡ 0
 unfolding refusal-of-start row
-start-accepted now image p q = rw (right-length (length image) p, not-late now q)
+start-accepted now n p q = rw (right-length n p, not-late now q)
 
 -- a call with a time below 2^32 s and not before the last accepted one
 module _ (last now : Time) (early : now .0 < 2 ^ 32) (onward : ticks last ≤ ticks now) where

@@ -1,0 +1,51 @@
+use mathlib.Core.Path.{sym, _∙_}
+use Rattle.refusals.specs.Left.{accepted-is, refused-is, start-length}
+use Rattle.bma150.specs.Calls.{after-start}
+use borrow.Author.Needs.{needs}
+use Rattle.bma150.proofs.types.Bma150.start.Statement.{statement}
+use Rattle.bma150.proofs.types.Bma150.start.Tie as tie
+
+refusal-of-start-requires : tie.Need-refusal-of-start-requires
+refusal-of-start-requires c κs = search needs
+
+is-accepted-requires : tie.Need-is-accepted-requires
+is-accepted-requires c κs = search needs
+
+image-of-requires : tie.Need-image-of-requires
+image-of-requires c κs = start-length (c .before .before .before .before .args .when) _ (rw (c .before .before .refusal-of-start .ensures) at (sym (c .before .is-accepted .ensures) ∙ c .if1 .taken))
+
+from-nonvolatile-requires : tie.Need-from-nonvolatile-requires
+from-nonvolatile-requires c κs = search needs
+
+returns : tie.Need-returns
+unfolding after-start
+returns c =
+    let n = c .before .before .before .before .refusal-of-start .ensures in
+    let e = rw n at (sym (c .before .before .before .is-accepted .ensures) ∙ c .before .before .if1 .taken) in
+    (n, c .from-nonvolatile .ensures ∙ rw (c .before .image-of .ensures) (sym (accepted-is _ _ _ e)))
+
+stock-requires : tie.Need-stock-requires
+stock-requires c κs = search needs
+
+from-nonvolatile-requires-2 : tie.Need-from-nonvolatile-requires-2
+from-nonvolatile-requires-2 c κs = search needs
+
+returns-2 : tie.Need-returns-2
+unfolding after-start
+returns-2 c =
+    let n = c .before .before .before .before .refusal-of-start .ensures in
+    let e = rw n at (sym (c .before .before .before .is-accepted .ensures) ∙ c .before .before .if1 .left) in
+    (n, c .from-nonvolatile2 .ensures ∙ rw (c .before .stock .ensures) (sym (refused-is _ _ _ e)))
+
+pub start-spec : {M : Type 1} → statement M
+start-spec =
+    tie.close
+    (tie.spec
+    refusal-of-start-requires
+    is-accepted-requires
+    image-of-requires
+    from-nonvolatile-requires
+    returns
+    stock-requires
+    from-nonvolatile-requires-2
+    returns-2)
