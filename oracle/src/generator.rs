@@ -17,6 +17,7 @@ use crate::{
     time::Time,
 };
 use profiles::Profile;
+pub use settings::STOCK;
 
 const SECOND: u128 = 1 << 64;
 const MILLISECOND: u128 = SECOND / 1000;

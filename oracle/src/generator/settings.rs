@@ -2,7 +2,7 @@
 use super::*;
 use crate::command::IMAGE;
 
-pub(super) const STOCK: [u8; IMAGE] = [
+pub const STOCK: [u8; IMAGE] = [
     3, 20, 150, 160, 150, 0, 0, 162, 13, 14, 128, 0, 0, 0, 0, 128, 128, 128, 0,
 ];
 
