@@ -1,6 +1,7 @@
 //! The Rust text of the sensor, compiled as it stands, and the driver around
 //! it. `time`, `signals`, `state` and `devices/*` are the text; `build` puts
 //! them beside these files.
+pub mod bench;
 pub mod command;
 mod devices;
 mod error;
