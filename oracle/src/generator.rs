@@ -2,6 +2,7 @@
 //! which calls are accepted and when something is due.
 mod actions;
 mod buses;
+mod corners;
 mod marks;
 mod moments;
 mod power;
@@ -61,6 +62,8 @@ pub struct Generator {
     phases: u128,
     /// Levels of the I2C lines as last reported: clock, data.
     lines: [bool; 2],
+    /// The select line as last set.
+    selected: bool,
     /// Calls left before the transfer at hand breaks off.
     breaks_in: Option<u64>,
     codes: [i32; 3],
@@ -85,6 +88,7 @@ impl Generator {
             credit: 4000,
             phases: 0,
             lines: [true; 2],
+            selected: false,
             breaks_in: None,
             codes: [0; 3],
             tied: None,

@@ -28,6 +28,7 @@ impl Generator {
     }
 
     pub(super) fn select(&mut self, level: bool) {
+        self.selected = level;
         self.send(Command::Select(level));
     }
 
@@ -203,7 +204,8 @@ impl Generator {
         self.lines = [self.random.bool(), self.random.bool()];
     }
 
-    fn rise(&mut self, data: bool) {
+    /// A clock edge of a transfer, at its time.
+    fn clock_edge(&mut self, command: impl FnOnce(Time) -> Command) {
         if !self.goes_on() {
             return;
         }
@@ -211,20 +213,16 @@ impl Generator {
         self.aside();
         self.settle();
         let at = self.now;
-        self.send(Command::Rising { at, data });
+        self.send(command(at));
         self.look();
     }
 
+    fn rise(&mut self, data: bool) {
+        self.clock_edge(|at| Command::Rising { at, data });
+    }
+
     fn fall(&mut self) {
-        if !self.goes_on() {
-            return;
-        }
-        self.tick();
-        self.aside();
-        self.settle();
-        let at = self.now;
-        self.send(Command::Falling { at });
-        self.look();
+        self.clock_edge(|at| Command::Falling { at });
     }
 
     fn spi_byte(&mut self, byte: u8) {
@@ -334,6 +332,51 @@ impl Generator {
             self.stop_condition();
         }
         self.i2c_read(None, 2);
+    }
+
+    /// An address byte after STOP, with no START before it.
+    pub(super) fn orphan(&mut self) {
+        self.select(false);
+        self.start_condition();
+        if self.random.bool() {
+            self.i2c_byte(0x70);
+        }
+        self.stop_condition();
+        self.pins(false, true);
+        let address = self.random.pick(&[0x70, 0x71]);
+        self.i2c_byte(address);
+        let register = self.address();
+        self.i2c_byte(register);
+        self.stop_condition();
+    }
+
+    /// Begin a read and leave it after some bits.
+    pub(super) fn begin_read(&mut self, address: u8, bits: u64) {
+        if self.random.below(100) < self.profile.spi {
+            self.select(true);
+            self.spi_byte(address | 0x80);
+        } else {
+            self.select(false);
+            self.start_condition();
+            self.i2c_byte(0x70);
+            self.i2c_byte(address);
+            self.start_condition();
+            self.i2c_byte(0x71);
+        }
+        self.go_on_reading(bits);
+    }
+
+    /// Clock pulses of a read over the bus that is selected; over I2C low, so
+    /// that bytes are acknowledged.
+    pub(super) fn go_on_reading(&mut self, pulses: u64) {
+        for _ in 0..pulses {
+            if self.selected {
+                self.fall();
+                self.rise(true);
+            } else {
+                self.pulse(false);
+            }
+        }
     }
 
     pub(super) fn spi_noise(&mut self) {

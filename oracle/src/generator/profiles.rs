@@ -31,7 +31,8 @@ pub struct Profile {
 use Image::{Any, Automatic, Interrupts, Motion, Near, Stock};
 use Pace::{Bus, Edges, Slow, Still, Swift};
 use Story::{
-    Alarm, Answer, Blind, Copy, Drowse, Flicker, Locked, Nap, Pair, Resume, Shake, Switch, Toggle,
+    Alarm, Answer, Band, Blind, Copy, Dimmed, Drowse, Duration, Flicker, Locked, Midway, Nap,
+    Orphan, Pair, Resume, Shake, Switch, Toggle, Unseen,
 };
 
 const PLAIN: Profile = Profile {
@@ -52,7 +53,7 @@ const PLAIN: Profile = Profile {
     automatic: 10,
 };
 
-pub static PROFILES: [Profile; 11] = [
+pub static PROFILES: [Profile; 12] = [
     Profile {
         name: "i2c",
         weights: [1, 2, 0, 1, 0, 2, 0, 8, 10, 3, 3, 2, 0, 1, 4, 1, 3],
@@ -160,6 +161,19 @@ pub static PROFILES: [Profile; 11] = [
         ..PLAIN
     },
     PLAIN,
+    Profile {
+        name: "corners",
+        weights: [1, 2, 1, 0, 1, 1, 0, 0, 1, 0, 0, 2, 0, 0, 0, 1, 30],
+        stories: &[Orphan, Band, Band, Band, Duration, Dimmed, Unseen, Midway],
+        images: [Stock, Stock, Near, Interrupts],
+        paces: [Still, Swift, Swift, Bus],
+        broken: 0,
+        stray: 0,
+        stutter: 0,
+        asides: 1,
+        automatic: 0,
+        ..PLAIN
+    },
 ];
 
 /// Not random: the marked rows, whatever the seed, with refusals between.

@@ -29,6 +29,18 @@ pub enum Story {
     Drowse,
     /// A read broken near a byte's end, and one from where it stopped.
     Resume,
+    /// An address byte after STOP.
+    Orphan,
+    /// Codes at the limit at which a criterion clears.
+    Band,
+    /// A duration written while it counts.
+    Duration,
+    /// A held pair and a read under way at a brown-out.
+    Dimmed,
+    /// Shadowing switched off for a read.
+    Unseen,
+    /// Shadowing switched off within a read.
+    Midway,
 }
 
 impl Generator {
@@ -47,15 +59,21 @@ impl Generator {
             Story::Switch => self.switch(),
             Story::Drowse => self.drowse(),
             Story::Resume => self.resume(),
+            Story::Orphan => self.orphan(),
+            Story::Band => self.band(),
+            Story::Duration => self.duration(),
+            Story::Dimmed => self.dimmed(),
+            Story::Unseen => self.unseen(),
+            Story::Midway => self.midway(),
         }
     }
 
-    fn see_at(&mut self, addresses: &[u8]) {
+    pub(super) fn see_at(&mut self, addresses: &[u8]) {
         let address = self.random.pick(addresses);
         self.send(Command::View(address));
     }
 
-    fn register(&self, address: u8, otherwise: u8) -> u8 {
+    pub(super) fn register(&self, address: u8, otherwise: u8) -> u8 {
         self.model.peek(address).unwrap_or(otherwise)
     }
 
@@ -126,7 +144,7 @@ impl Generator {
     }
 
     /// Set the accelerations for codes on all axes alike.
-    fn level(&mut self, code: i32) {
+    pub(super) fn level(&mut self, code: i32) {
         self.codes = [code; 3];
         self.set_codes();
     }
