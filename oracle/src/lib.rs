@@ -16,6 +16,7 @@ pub mod records;
 pub mod signals;
 #[allow(dead_code)]
 mod state;
+pub mod streams;
 #[allow(dead_code)]
 pub mod time;
 

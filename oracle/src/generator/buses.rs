@@ -316,15 +316,20 @@ impl Generator {
         self.select(false);
     }
 
-    /// Read, break off near a byte's end, and go on from the pointer.
-    pub(super) fn resume(&mut self) {
-        let address = self.address();
+    /// Set the pointer, and address the sensor for reading.
+    fn i2c_read_from(&mut self, address: u8) {
         self.select(false);
         self.start_condition();
         self.i2c_byte(0x70);
         self.i2c_byte(address);
         self.start_condition();
         self.i2c_byte(0x71);
+    }
+
+    /// Read, break off near a byte's end, and go on from the pointer.
+    pub(super) fn resume(&mut self) {
+        let address = self.address();
+        self.i2c_read_from(address);
         for _ in 0..self.random.within(5, 9) {
             self.pulse(true);
         }
@@ -356,12 +361,7 @@ impl Generator {
             self.select(true);
             self.spi_byte(address | 0x80);
         } else {
-            self.select(false);
-            self.start_condition();
-            self.i2c_byte(0x70);
-            self.i2c_byte(address);
-            self.start_condition();
-            self.i2c_byte(0x71);
+            self.i2c_read_from(address);
         }
         self.go_on_reading(bits);
     }

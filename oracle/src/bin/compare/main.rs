@@ -9,9 +9,10 @@ mod programs;
 mod shrink;
 mod streams;
 
+use oracle::streams::commands;
 use programs::{Program, Verdict};
 use std::{fs, ops::RangeInclusive, process::exit};
-use streams::{commands, Batch, Streams};
+use streams::{Batch, Streams};
 
 struct Arguments {
     seeds: RangeInclusive<u64>,

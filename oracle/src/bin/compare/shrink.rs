@@ -1,8 +1,6 @@
 //! Shrinking: commands are left out while the difference remains.
-use crate::{
-    programs::{Program, Verdict},
-    streams::commands,
-};
+use crate::programs::{Program, Verdict};
+use oracle::streams::commands;
 use std::time::{Duration, Instant};
 
 /// How long to go on.

@@ -1,11 +1,10 @@
 //! The random streams, several joined for one run of a program.
 use oracle::{
-    command::{decode, Command, Decoded},
     generator::{
         profiles::{Profile, PROFILES},
-        Generator, STOCK,
+        Generator,
     },
-    Time,
+    streams,
 };
 use std::ops::RangeInclusive;
 
@@ -14,21 +13,6 @@ const COMMANDS: u64 = 40_000;
 /// Streams joined at most. Only the last can end with a command that cannot be
 /// read.
 const JOINED: u64 = 8;
-
-/// The commands of a stream. What cannot be read is one command, the last.
-pub fn commands(bytes: &[u8]) -> Vec<&[u8]> {
-    let (mut commands, mut rest) = (Vec::new(), bytes);
-    while !rest.is_empty() {
-        let length = match decode(rest) {
-            Decoded::Command(_, length) => length,
-            Decoded::Short | Decoded::Bad => rest.len(),
-        };
-        let (command, others) = rest.split_at(length);
-        commands.push(command);
-        rest = others;
-    }
-    commands
-}
 
 pub struct Part {
     pub seed: u64,
@@ -46,23 +30,6 @@ impl Part {
             bytes: generator.bytes().to_vec(),
         }
     }
-
-    /// The commands as they stand in a joined stream: after the first part
-    /// from a start, before the last part without what cannot be read.
-    fn joined(&self, first: bool, last: bool) -> Vec<Vec<u8>> {
-        let mut joined = Vec::new();
-        if !first && self.bytes.first() != Some(&0x01) {
-            let mut start = Vec::new();
-            let at = Time::ZERO;
-            Command::Start { at, image: STOCK }.encode(&mut start);
-            joined.push(start);
-        }
-        let readable = |bytes: &&[u8]| matches!(decode(bytes), Decoded::Command(..));
-        let commands = commands(&self.bytes);
-        let kept = commands.into_iter().filter(|bytes| last || readable(bytes));
-        joined.extend(kept.map(<[u8]>::to_vec));
-        joined
-    }
 }
 
 /// Streams that one run of a program takes.
@@ -76,7 +43,7 @@ impl Batch {
     fn new(parts: Vec<Part>) -> Self {
         let last = parts.len() - 1;
         let joined = parts.iter().enumerate();
-        let joined = joined.map(|(n, part)| part.joined(n == 0, n == last));
+        let joined = joined.map(|(n, part)| streams::part(&part.bytes, n != 0, n == last));
         Self {
             joined: joined.collect(),
             parts,
