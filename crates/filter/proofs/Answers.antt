@@ -67,13 +67,13 @@ answers : (f : Filter) (axis : ℕ) (code : ℤ) (codes : List ℤ) → Sized f 
 unfolding mean
 answers f axis code codes s h true e =
     let few = ltb-true (length (code ∷ codes)) (window f) e in
-    answered-code f axis code s (rw (h .count) (omega (arith, window-le (min (f .shift) 6) (omega arith))))
+    answered-code f axis code (rw (h .count) (omega (arith, window-le (min (f .shift) 6) (omega arith))))
 answers f axis code codes s h false e =
     let w = window f in
     let enough : w ≤ length (code ∷ codes) = ltb-false (length (code ∷ codes)) w e in
     let most : w ≤ 64 = window-le (min (f .shift) 6) (omega arith) in
     let then = holds-push f axis axis code codes s h true (eq-eqb (axis % 3) (axis % 3) refl) in
-    answered-mean f axis code s (rw (h .count) (omega arith))
+    answered-mean f axis code (rw (h .count) (omega arith))
     ∙ rw (then .last, take-take w 64 (code ∷ codes ++ replicate 64 (pos 0)) most, take-append-le w (code ∷ codes) (replicate 64 (pos 0)) enough)
 
 -- the answer to a code, after a new filter and any operations: 01's answer for the bandwidth in force and the codes pushed on that axis

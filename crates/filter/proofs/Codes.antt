@@ -68,16 +68,11 @@ unfolding pushed
 sized-pushed f axis code s = record { codes = rw length-set (s .codes); places = rw length-set (s .places); counts = rw length-set (s .counts) }
 
 -- ---- a push
-module _ (f : Filter) (axis : ℕ) (code : ℤ) (s : Sized f) where
+module _ (f : Filter) (axis : ℕ) (code : ℤ) where
   -- the newest code then stands where it was put
-  pub newest-place : (place (pushed f axis code) axis + 63) % 64 ≡ place f axis
+  pub newest-place : length (f .next) ≡ 3 → (place (pushed f axis code) axis + 63) % 64 ≡ place f axis
   unfolding pushed
-  newest-place = rw (getD-set-same (f .next) (axis % 3) ((place f axis + 1) % 64) 0 (omega (arith, s .places))) (omega arith)
-
-  -- the code is put in front, and the oldest dropped
-  pub push-codes : last-codes (pushed f axis code) axis ≡ take 64 (code ∷ last-codes f axis)
-  unfolding pushed
-  push-codes = rw newest-place (ring-same (f .history) (axis % 3) (place f axis) code (omega arith) (omega (arith, s .codes)))
+  newest-place three = rw (getD-set-same (f .next) (axis % 3) ((place f axis + 1) % 64) 0 (omega (arith, three))) (omega arith)
 
   -- the answer: the code itself while there are fewer than the window, and else the mean of the window
   pub answered-code : count-with f axis < window f → answered f axis code ≡ code
@@ -89,11 +84,18 @@ module _ (f : Filter) (axis : ℕ) (code : ℤ) (s : Sized f) where
   answered-mean p = rw (le-ltb (count-with f axis) (window f) p)
 
   -- the mean as the code makes it
-  pub answered-ring : window f ≤ count-with f axis
+  pub answered-ring : length (f .next) ≡ 3
+      → window f ≤ count-with f axis
       → answered f axis code
       ≡ mean (window f) (ring (set (f .history) (axis % 3 * 64 + place f axis) code) (axis % 3 * 64) (place f axis))
   unfolding pushed
-  answered-ring p = answered-mean p ∙ rw newest-place
+  answered-ring three p = answered-mean p ∙ rw (newest-place three)
+
+module _ (f : Filter) (axis : ℕ) (code : ℤ) (s : Sized f) where
+  -- the code is put in front, and the oldest dropped
+  pub push-codes : last-codes (pushed f axis code) axis ≡ take 64 (code ∷ last-codes f axis)
+  unfolding pushed
+  push-codes = rw (newest-place f axis code (s .places)) (ring-same (f .history) (axis % 3) (place f axis) code (omega arith) (omega (arith, s .codes)))
 
   -- one more is counted, 64 at most
   pub push-count : getD (pushed f axis code .count) (axis % 3) 0 ≡ count-with f axis

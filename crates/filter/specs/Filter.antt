@@ -6,6 +6,7 @@ use lib.Dec.{ltb}
 use lib.ListN.{getD, set, replicate}
 use lib.IntN.{ℤ, pos}
 use Rattle.filter.specs.declared.Filter.{Filter}
+use Rattle.filter.specs.declared.Places.{Places}
 use Rattle.filter.specs.Mean.{ring, mean}
 
 -- the shift of a bandwidth code: 6 - b, 7 as 6 (01), and so every greater number
@@ -13,8 +14,18 @@ abbrev pub shift-of : ℕ → ℕ
 shift-of bandwidth = 6 - min bandwidth 6
 
 -- the window, 2 ^ (6 - b) (01): 2 ^ shift; a shift above 6 counts as 6
+abbrev pub window-of : ℕ → ℕ
+window-of shift = 2 ^ min shift 6
+
 abbrev pub window : Filter → ℕ
-window f = 2 ^ min (f .shift) 6
+window f = window-of (f .shift)
+
+-- a filter without its history, and with one
+abbrev pub places : Filter → Places
+places f = record { next = f .next; count = f .count; shift = f .shift }
+
+abbrev pub joined : List ℤ → Places → Filter
+joined history p = record { history = history; next = p .next; count = p .count; shift = p .shift }
 
 -- a new filter: three histories of 64 zeros, no code counted (01)
 abbrev pub made : ℕ → Filter

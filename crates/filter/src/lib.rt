@@ -5,7 +5,7 @@ ghost use lib.IntN.{_+ℤ_};
 ghost use lib.Signed.{mag};
 ghost use lib.ListN.{take, drop};
 ghost use Rattle.filter.specs.Mean.{ring, sumZ, mean};
-ghost use Rattle.filter.specs.Filter.{window, made, selected, pushed, answered};
+ghost use Rattle.filter.specs.Filter.{window-of, window, made, selected, places, joined, pushed, answered};
 
 // `history` holds the last 64 codes of each axis as a ring, axis * 64 and its place; `next` is the place that an axis
 // writes next and `count` how many codes it holds. The window is 2^shift.
@@ -21,6 +21,18 @@ pub struct Pushed {
     pub code: i16,
 }
 
+// A filter without its history, which is lent beside it.
+pub struct Places {
+    next: [u8; 3],
+    count: [u8; 3],
+    shift: u8,
+}
+
+pub struct Placed {
+    pub places: Places,
+    pub code: i16,
+}
+
 // The lesser of two numbers.
 fn lesser(x: usize, y: usize) -> usize
     ensures { λ r. ⌜ r ≡ min x y ⌝ }
@@ -33,6 +45,13 @@ fn least6(x: u8) -> u8
     ensures { λ r. ⌜ r ≡ min x 6 ⌝ }
 {
     if x < 6 { x } else { 6 }
+}
+
+// The window of a shift.
+fn window_of(shift: u8) -> u8
+    ensures { λ r. ⌜ r ≡ window-of shift ⌝ }
+{
+    1u8 << least6(shift)
 }
 
 // One code more, 64 at most.
@@ -92,7 +111,7 @@ impl Filter {
     pub fn window(self) -> u8
         ensures { λ r. ⌜ r ≡ window self ⌝ }
     {
-        1u8 << least6(self.shift)
+        window_of(self.shift)
     }
 
     // Another bandwidth. The codes stay.
@@ -104,27 +123,86 @@ impl Filter {
         f
     }
 
+    // The codes of the three axes.
+    pub fn history(self) -> [i16; 192]
+        ensures { λ r. ⌜ r ≡ self .history ⌝ }
+    {
+        let history = self.history;
+        history
+    }
+
+    // All but the codes.
+    pub fn places(self) -> Places
+        ensures { λ r. ⌜ r ≡ places self ⌝ }
+    {
+        let next = self.next;
+        let count = self.count;
+        Places {
+            next: next,
+            count: count,
+            shift: self.shift,
+        }
+    }
+
     // A code comes on an axis, and is answered by itself or by the mean.
     pub fn push(self, axis: u8, code: i16) -> Pushed
         ensures { λ r. ⌜ r .filter ≡ pushed self axis code ⌝ }
         ensures { λ r. ⌜ r .code ≡ answered self axis code ⌝ }
     {
+        let mut history = self.history;
+        let p = self.places();
+        let r = p.push(&mut history, axis, code);
+        let q = r.places;
+        Pushed {
+            filter: q.joined(history),
+            code: r.code,
+        }
+    }
+}
+
+impl Places {
+    // The filter of these places and a history.
+    pub fn joined(self, history: [i16; 192]) -> Filter
+        ensures { λ r. ⌜ r ≡ joined history self ⌝ }
+    {
+        let next = self.next;
+        let count = self.count;
+        Filter {
+            history: history,
+            next: next,
+            count: count,
+            shift: self.shift,
+        }
+    }
+
+    // How many codes the mean is of.
+    pub fn window(self) -> u8
+        ensures { λ r. ⌜ r ≡ window-of (self .shift) ⌝ }
+    {
+        window_of(self.shift)
+    }
+
+    // A code comes on an axis of the lent history, and is answered by itself or by the mean.
+    pub fn push(self, history: &mut [i16; 192], axis: u8, code: i16) -> Placed
+        ensures { λ r. ⌜ joined (now (history .exit)) (r .places) ≡ pushed (joined (now (history .entry)) self) axis code ⌝ }
+        ensures { λ r. ⌜ r .code ≡ answered (joined (now (history .entry)) self) axis code ⌝ }
+    {
         let a = (axis % 3) as usize;
         let place = (self.next[a] % 64) as usize;
         let count = counted(self.count[a]);
-        let mut f = self;
-        f.history[a * 64 + place] = code;
-        f.next[a] = ((place + 1) % 64) as u8;
-        f.count[a] = count;
+        let mut p = self;
+        history[a * 64 + place] = code;
+        p.next[a] = ((place + 1) % 64) as u8;
+        p.count[a] = count;
         if count < self.window() {
-            return Pushed {
-                filter: f,
+            return Placed {
+                places: p,
                 code: code,
             };
         }
-        let mean = mean_of(&f.history, a * 64, place, least6(self.shift));
-        Pushed {
-            filter: f,
+        let mean = mean_of(history, a * 64, place, least6(self.shift));
+        Placed {
+            places: p,
             code: mean,
         }
     }

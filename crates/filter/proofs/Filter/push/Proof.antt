@@ -1,109 +1,28 @@
-use Rattle.filter.proofs.Codes.{Sized, answered-code, answered-ring}
-use Prim.Native.Nat.{_^_, _<_, _≤_}
+use Prim.Native.Nat.{_^_}
 use mathlib.Core.Path.{_≡_, sym, _∙_}
 use mir.Syntax.{w16}
-use mir.Val.{toZ, ofZ}
 use Rattle.laws.specs.Signed.{Reach, of-fits, back}
-use Rattle.filter.specs.Filter.{window, count-with, pushed}
 use borrow.Author.Needs.{needs}
 use Rattle.filter.proofs.Filter.push.Statement.{statement}
 use Rattle.filter.proofs.Filter.push.Tie as tie
 
-code-back : (c : tie.Start) → toZ w16 (ofZ w16 (c .args .code)) ≡ c .args .code
-code-back c = back w16 (of-fits (c .fits .code)) tt
+places-requires : tie.Need-places-requires
+places-requires c κs = search needs
 
-sized : (c : tie.Start) → Sized (c .args .t1)
-sized c = record { codes = search needs; places = search needs; counts = search needs }
+push-requires : tie.Need-push-requires
+push-requires c κs = search needs
 
-cast-a : tie.Need-cast-a
-cast-a c = search needs
-
-element-copy-out-place : tie.Need-element-copy-out-place
-element-copy-out-place c = search needs
-
-cast-place : tie.Need-cast-place
-cast-place c = search needs
-
-element-copy-out-counted : tie.Need-element-copy-out-counted
-element-copy-out-counted c = search needs
-
-counted-requires : tie.Need-counted-requires
-counted-requires c κs = search needs
-
-mul-code : tie.Need-mul-code
-mul-code c = search needs
-
-add-code : tie.Need-add-code
-add-code c = search needs
-
-mul-code-2 : tie.Need-mul-code-2
-mul-code-2 c = search needs
-
-element-set-from-code : tie.Need-element-set-from-code
-element-set-from-code c = search needs
-
-add-f : tie.Need-add-f
-add-f c = search needs
-
-cast-f : tie.Need-cast-f
-cast-f c = search needs
-
-element-write-f : tie.Need-element-write-f
-element-write-f c = search needs
-
-element-write-f-2 : tie.Need-element-write-f-2
-element-write-f-2 c = search needs
-
-window-requires : tie.Need-window-requires
-window-requires c κs = search needs
+joined-requires : tie.Need-joined-requires
+joined-requires c κs = search needs
 
 returns : tie.Need-returns
-unfolding pushed
-returns c = let f = c .before .before .before .before .before .args .t1 in let a = c .before .before .before .before .before .args .axis in
-    let start = c .before .before .before .before .before in
-    let few : count-with f a < window f = rw (c .before .before .counted .ensures, c .before .window .ensures) at (c .if1 .taken) in
-    (rw (code-back start, c .before .before .counted .ensures), code-back start ∙ sym (answered-code f a (c .before .before .before .before .before .args .code) (sized start) few))
-
-mul-mean-of : tie.Need-mul-mean-of
-mul-mean-of c = search needs
-
-least6-requires : tie.Need-least6-requires
-least6-requires c κs = search needs
-
-mean-of-requires : tie.Need-mean-of-requires
-mean-of-requires c κs = search needs
-
-returns-2 : tie.Need-returns-2
-unfolding pushed
-returns-2 c = let f = c .before .before .before .before .before .before .before .before .before .args .t1 in let a = c .before .before .before .before .before .before .before .before .before .args .axis in
-    let start = c .before .before .before .before .before .before .before .before .before in
-    let enough : window f ≤ count-with f a = rw (c .before .before .before .before .before .before .counted .ensures, c .before .before .before .before .before .window .ensures) at (c .before .before .before .before .if1 .left) in
-    let reach : Reach (c .mean-of .result) (2 ^ 15) = record { reach = c .mean-of .ok } in
-    let mean-is = rw (code-back start, c .before .least6 .ensures) at (c .mean-of .ensures) in (
-      rw (code-back start, c .before .before .before .before .before .before .counted .ensures),
-      back w16 reach tt ∙ mean-is ∙ sym (answered-ring f a (c .before .before .before .before .before .before .before .before .before .args .code) (sized start) enough),
-    )
+returns c =
+    let p = c .before .before .before .push in
+    let k : Reach (p .result .code) (2 ^ 15) = record { reach = c .struct-told .given .1 .0 .1 } in
+    let start = c .before .before .before .before .before .before .before in
+    let code = back w16 (of-fits (start .fits .code)) tt in
+    let places = c .before .before .before .before .before .places .ensures in
+    (c .before .joined .ensures ∙ p .ensures .0 ∙ rw (code, places), back w16 k tt ∙ p .ensures .1 ∙ rw (code, places))
 
 pub push-spec : {M : Type 1} → statement M
-push-spec =
-    tie.close
-    (tie.spec
-    cast-a
-    element-copy-out-place
-    cast-place
-    element-copy-out-counted
-    counted-requires
-    mul-code
-    add-code
-    mul-code-2
-    element-set-from-code
-    add-f
-    cast-f
-    element-write-f
-    element-write-f-2
-    window-requires
-    returns
-    mul-mean-of
-    least6-requires
-    mean-of-requires
-    returns-2)
+push-spec = tie.close (tie.spec places-requires push-requires joined-requires returns)
