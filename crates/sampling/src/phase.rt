@@ -1,9 +1,16 @@
 // One sample phase, and runs of them.
 ghost use mathlib.Core.Path.{_≡_};
+ghost use mathlib.Core.Bool.{cond, not, _&&_, _||_};
+ghost use mathlib.Core.List.{List};
+ghost use lib.Dec.{leb, eqb};
+ghost use lib.IntN.{ℤ};
 ghost use Prim.Native.Nat.{_<_, _≤_, _+_, min};
+ghost use Rattle.registers.specs.Map.{wake-up};
+ghost use Rattle.control.specs.Waits.{acquisition-cycles};
 ghost use Rattle.sampling.specs.Phase as P;
 use crate::types::Conversion;
 use crate::types::Input;
+use crate::types::Rest;
 use crate::types::Sampling;
 use crate::types::Test;
 use control::waits::acquisition_cycles;
@@ -40,9 +47,9 @@ fn sampled(input: Input, axis: u8) -> i32
     input.z
 }
 
-fn converted(registers: [u8; 62], input: Input, axis: u8) -> i16
+fn converted(registers: &[u8; 62], input: Input, axis: u8) -> i16
     requires { ⌜ axis < 3 ⌝ }
-    ensures { λ r. ⌜ r ≡ P.converted registers input axis ⌝ }
+    ensures { λ r. ⌜ r ≡ P.converted (now (registers .entry)) input axis ⌝ }
 {
     if has(registers[CONTROL], SELF_TEST_1) {
         return 0;
@@ -106,6 +113,28 @@ fn one_less(n: u8) -> u8
     n - 1
 }
 
+// Whether the scans are observed, by the byte of 15, the window and the scans since the wake.
+fn observing(operation: u8, window: u8, cycles: u16) -> bool
+    ensures { λ r. ⌜ r ≡ (not (wake-up operation) || leb (acquisition-cycles window) cycles) ⌝ }
+{
+    if has(operation, WAKE_UP) {
+        return acquisition_cycles(window) <= cycles;
+    }
+    true
+}
+
+// One scan in so many counts as an observation.
+fn interval(operation: u8, window: u8, cycles: u16) -> u8
+    ensures { λ r. ⌜ r ≡ cond (wake-up operation && eqb cycles (acquisition-cycles window)) 1 window ⌝ }
+{
+    if has(operation, WAKE_UP) {
+        if cycles == acquisition_cycles(window) {
+            return 1;
+        }
+    }
+    window
+}
+
 impl Sampling {
     // Whether the sensor has been awake for the scans of an acquisition.
     pub fn acquired(self) -> bool
@@ -113,28 +142,6 @@ impl Sampling {
     {
         let f = self.filter;
         acquisition_cycles(f.window()) <= self.auto_cycles
-    }
-
-    fn interval(self, registers: [u8; 62]) -> u8
-        ensures { λ r. ⌜ r ≡ P.interval registers self ⌝ }
-    {
-        let f = self.filter;
-        let w = f.window();
-        if has(registers[OPERATION], WAKE_UP) {
-            if self.auto_cycles == acquisition_cycles(w) {
-                return 1;
-            }
-        }
-        w
-    }
-
-    fn observing(self, registers: [u8; 62]) -> bool
-        ensures { λ r. ⌜ r ≡ P.observing registers self ⌝ }
-    {
-        if has(registers[OPERATION], WAKE_UP) {
-            return self.acquired();
-        }
-        true
     }
 
     pub fn with_test(self, test: Test) -> Sampling
@@ -155,194 +162,234 @@ impl Sampling {
     }
 }
 
-impl Conversion {
-    fn with_test(self, test: Test) -> Conversion
-        ensures { λ r. ⌜ r ≡ P.with-sampling self (P.with-test (self .sampling) test) ⌝ }
+impl Rest {
+    fn with_test(self, test: Test) -> Rest
+        ensures { λ r. ⌜ r ≡ P.rest-with-test self test ⌝ }
     {
-        let s = self.sampling;
-        let mut c = self;
-        c.sampling = s.with_test(test);
-        c
-    }
-
-    fn warmed(self, input: Input) -> Conversion
-        ensures { λ r. ⌜ r ≡ P.warmed self input ⌝ }
-    {
-        let mut c = self;
-        c.registers[TEMP] = temperature(input.temperature_millicelsius);
-        c
-    }
-
-    // A code of an axis is filtered, and the answer shown.
-    fn filtered_code(self, axis: u8, k: i16) -> Conversion
-        requires { ⌜ axis < 3 ⌝ }
-        ensures { λ r. ⌜ r ≡ P.filtered-code self axis k ⌝ }
-    {
-        let a = axis as usize;
-        let mut s = self.sampling;
-        let f = s.filter;
-        let p = f.push(axis, k);
-        let answer = p.code;
-        let g = p.filter;
-        s.filter = g;
-        s.filtered[a] = answer;
-        let mut c = self;
-        c.sampling = s;
-        c.registers[ACC_LSB + a * 2] = code_low(answer);
-        c.registers[ACC_MSB + a * 2] = code_high(answer);
-        let i = c.interrupts;
-        let r = c.registers;
-        c.interrupts = i.axis(axis, answer, r);
-        c
-    }
-
-    fn counted(self) -> Conversion
-        ensures { λ r. ⌜ r ≡ P.counted self ⌝ }
-    {
-        let r = self.registers;
-        let mut s = self.sampling;
-        s.data_ready = ready(r, s.data_ready);
-        s.auto_cycles = one_more(s.auto_cycles);
-        let mut c = self;
-        c.sampling = s;
-        c
-    }
-
-    fn observed(self, needs: [u8; 4]) -> Conversion
-        ensures { λ r. ⌜ r ≡ P.observed self needs ⌝ }
-    {
-        let r = self.registers;
-        let s = self.sampling;
-        let i = self.interrupts;
-        if s.observing(r) {
-            let mut c = self;
-            let codes = s.filtered;
-            c.interrupts = i.cycle(codes, s.interval(r), r, needs);
-            return c;
+        let places = self.places;
+        let codes = self.filtered;
+        let clock = self.clock;
+        let interrupts = self.interrupts;
+        Rest {
+            places: places,
+            filtered: codes,
+            clock: clock,
+            asleep: self.asleep,
+            auto_cycles: self.auto_cycles,
+            test: test,
+            data_ready: self.data_ready,
+            interrupts: interrupts,
         }
-        self
     }
 
-    fn scanned(self, axis: u8, needs: [u8; 4]) -> Conversion
-        ensures { λ r. ⌜ r ≡ P.scanned self axis needs ⌝ }
+    // The conversion of this, registers and a history.
+    fn joined(self, registers: [u8; 62], history: [i16; 192]) -> Conversion
+        ensures { λ r. ⌜ r ≡ P.joined registers history self ⌝ }
     {
-        if axis == 2 {
-            let c = self.counted();
-            return c.observed(needs);
+        let places = self.places;
+        let codes = self.filtered;
+        let clock = self.clock;
+        let test = self.test;
+        let interrupts = self.interrupts;
+        let sampling = Sampling {
+            filter: places.joined(history),
+            filtered: codes,
+            clock: clock,
+            asleep: self.asleep,
+            auto_cycles: self.auto_cycles,
+            test: test,
+            data_ready: self.data_ready,
+        };
+        Conversion {
+            registers: registers,
+            sampling: sampling,
+            interrupts: interrupts,
         }
-        self
     }
+}
 
-    fn test_ended(self) -> Conversion
-        ensures { λ r. ⌜ r ≡ P.test-ended self ⌝ }
-    {
-        let control = self.registers[CONTROL] & 0xfb;
-        let status = self.registers[STATUS] | 0x80;
-        let mut c = self.with_test(Test::Off);
-        c.registers[CONTROL] = control;
-        c.registers[STATUS] = status;
-        c
+// A code of an axis is filtered, and the answer shown.
+fn measured(
+    registers: &mut [u8; 62],
+    history: &mut [i16; 192],
+    t: Rest,
+    input: Input,
+    axis: u8,
+) -> Rest
+    requires { ⌜ axis < 3 ⌝ }
+    ensures { λ r. ⌜ P.joined (now (registers .exit)) (now (history .exit)) r ≡ P.measured (P.joined (now (registers .entry)) (now (history .entry)) t) input axis ⌝ }
+{
+    let a = axis as usize;
+    let places = t.places;
+    let p = places.push(history, axis, converted(registers, input, axis));
+    let answer = p.code;
+    registers[ACC_LSB + a * 2] = code_low(answer);
+    registers[ACC_MSB + a * 2] = code_high(answer);
+    let mut u = t;
+    let q = p.places;
+    u.places = q;
+    let mut codes = t.filtered;
+    codes[a] = answer;
+    u.filtered = codes;
+    let i = t.interrupts;
+    let r = *registers;
+    u.interrupts = i.axis(axis, answer, r);
+    u
+}
+
+// The scan is complete: it is counted, and observed for motion.
+fn scanned(registers: &[u8; 62], t: Rest, needs: [u8; 4]) -> Rest
+    ensures { λ r. ⌜ ((h : List ℤ) → P.joined (now (registers .entry)) h r ≡ P.observed (P.counted (P.joined (now (registers .entry)) h t)) needs) ⌝ }
+{
+    let r = *registers;
+    let operation = r[OPERATION];
+    let places = t.places;
+    let window = places.window();
+    let mut u = t;
+    u.data_ready = ready(r, t.data_ready);
+    u.auto_cycles = one_more(t.auto_cycles);
+    if observing(operation, window, u.auto_cycles) {
+        let i = t.interrupts;
+        let codes = t.filtered;
+        u.interrupts = i.cycle(codes, interval(operation, window, u.auto_cycles), r, needs);
+        return u;
     }
+    u
+}
 
-    fn measured(self, input: Input, axis: u8) -> Conversion
-        requires { ⌜ axis < 3 ⌝ }
-        ensures { λ r. ⌜ r ≡ P.measured self input axis ⌝ }
-    {
-        let r = self.registers;
-        self.filtered_code(axis, converted(r, input, axis))
-    }
+fn test_ended(registers: &mut [u8; 62], t: Rest) -> Rest
+    ensures { λ r. ⌜ ((h : List ℤ) → P.joined (now (registers .exit)) h r ≡ P.test-ended (P.joined (now (registers .entry)) h t)) ⌝ }
+{
+    let control = registers[CONTROL] & 0xfb;
+    let status = registers[STATUS] | 0x80;
+    registers[CONTROL] = control;
+    registers[STATUS] = status;
+    t.with_test(Test::Off)
+}
 
-    fn axis_phase(self, input: Input, phase: u8, needs: [u8; 4]) -> Conversion
-        requires { ⌜ (0 < phase) × (phase < 4) ⌝ }
-        ensures { λ r. ⌜ r ≡ P.axis-phase (self .sampling .test) self input phase needs ⌝ }
-    {
-        let s = self.sampling;
-        let test = s.test;
-        match test {
-            Test::Off => {
-                let c = self.measured(input, phase - 1);
-                c.scanned(phase - 1, needs)
+fn axis_phase(
+    registers: &mut [u8; 62],
+    history: &mut [i16; 192],
+    t: Rest,
+    input: Input,
+    phase: u8,
+    needs: [u8; 4],
+) -> Rest
+    requires { ⌜ (0 < phase) × (phase < 4) ⌝ }
+    ensures { λ r. ⌜ P.joined (now (registers .exit)) (now (history .exit)) r ≡ P.axis-phase (t .test) (P.joined (now (registers .entry)) (now (history .entry)) t) input phase needs ⌝ }
+{
+    let test = t.test;
+    match test {
+        Test::Off => {
+            let u = measured(registers, history, t, input, phase - 1);
+            if phase - 1 == 2 {
+                return scanned(registers, u, needs);
             }
-            Test::Phases(left) => {
-                if phase == 3 {
-                    if left == 0 {
-                        return self.test_ended();
-                    }
+            u
+        }
+        Test::Phases(left) => {
+            if phase == 3 {
+                if left == 0 {
+                    return test_ended(registers, t);
                 }
-                self
             }
+            t
         }
     }
+}
 
-    // The phase of the clock's last edge.
-    pub fn sample_phase(self, input: Input, needs: [u8; 4]) -> Conversion
-        ensures { λ r. ⌜ r ≡ P.sample-phase self input needs ⌝ }
+// The phase of the clock's last edge.
+fn sample_phase(
+    registers: &mut [u8; 62],
+    history: &mut [i16; 192],
+    t: Rest,
+    input: Input,
+    needs: [u8; 4],
+) -> Rest
+    ensures { λ r. ⌜ P.joined (now (registers .exit)) (now (history .exit)) r ≡ P.sample-phase (P.joined (now (registers .entry)) (now (history .entry)) t) input needs ⌝ }
+{
+    let clock = t.clock;
+    let test = t.test;
+    let phase = ((clock.ordinal % 4 + 3) % 4) as u8;
+    let u = t.with_test(test_counted(test));
+    if phase == 0 {
+        registers[TEMP] = temperature(input.temperature_millicelsius);
+        return u;
+    }
+    axis_phase(registers, history, u, input, phase, needs)
+}
+
+// A millisecond passes at every twelfth edge.
+fn ticked(registers: &[u8; 62], t: Rest) -> Rest
+    ensures { λ r. ⌜ ((h : List ℤ) → P.joined (now (registers .entry)) h r ≡ P.ticked (P.joined (now (registers .entry)) h t)) ⌝ }
+{
+    let clock = t.clock;
+    if clock.ordinal % 12 == 0 {
+        let places = t.places;
+        if observing(registers[OPERATION], places.window(), t.auto_cycles) {
+            let i = t.interrupts;
+            let r = *registers;
+            let mut u = t;
+            u.interrupts = i.millisecond(r);
+            return u;
+        }
+    }
+    t
+}
+
+// The clock's next edge: its phase, and the millisecond.
+fn sample(
+    registers: &mut [u8; 62],
+    history: &mut [i16; 192],
+    t: Rest,
+    input: Input,
+    needs: [u8; 4],
+) -> Rest
+    ensures { λ r. ⌜ P.joined (now (registers .exit)) (now (history .exit)) r ≡ P.sample input needs (P.joined (now (registers .entry)) (now (history .entry)) t) ⌝ }
+{
+    let clock = t.clock;
+    let mut u = t;
+    u.clock = clock.advance(1);
+    let v = sample_phase(registers, history, u, input, needs);
+    ticked(registers, v)
+}
+
+impl Conversion {
+    // All but the registers and the filter's history.
+    fn rest(self) -> Rest
+        ensures { λ r. ⌜ r ≡ P.rest self ⌝ }
     {
         let s = self.sampling;
+        let f = s.filter;
+        let codes = s.filtered;
         let clock = s.clock;
         let test = s.test;
-        let phase = ((clock.ordinal % 4 + 3) % 4) as u8;
-        let c = self.with_test(test_counted(test));
-        if phase == 0 {
-            return c.warmed(input);
+        let interrupts = self.interrupts;
+        Rest {
+            places: f.places(),
+            filtered: codes,
+            clock: clock,
+            asleep: s.asleep,
+            auto_cycles: s.auto_cycles,
+            test: test,
+            data_ready: s.data_ready,
+            interrupts: interrupts,
         }
-        c.axis_phase(input, phase, needs)
-    }
-
-    fn ticks_now(self) -> bool
-        ensures { λ r. ⌜ r ≡ P.ticks-now self ⌝ }
-    {
-        let r = self.registers;
-        let s = self.sampling;
-        let clock = s.clock;
-        if clock.ordinal % 12 == 0 {
-            return s.observing(r);
-        }
-        false
-    }
-
-    fn ticked(self) -> Conversion
-        ensures { λ r. ⌜ r ≡ P.ticked self ⌝ }
-    {
-        if self.ticks_now() {
-            let r = self.registers;
-            let i = self.interrupts;
-            let mut c = self;
-            c.interrupts = i.millisecond(r);
-            return c;
-        }
-        self
-    }
-
-    fn advanced(self) -> Conversion
-        ensures { λ r. ⌜ r ≡ P.advanced self ⌝ }
-    {
-        let mut s = self.sampling;
-        let clock = s.clock;
-        s.clock = clock.advance(1);
-        let mut c = self;
-        c.sampling = s;
-        c
-    }
-
-    // The clock's next edge: its phase, and the millisecond.
-    pub fn sample(self, input: Input, needs: [u8; 4]) -> Conversion
-        ensures { λ r. ⌜ r ≡ P.sample input needs self ⌝ }
-    {
-        let c = self.advanced();
-        let d = c.sample_phase(input, needs);
-        d.ticked()
     }
 
     // So many edges.
     pub fn samples(self, n: u64, input: Input, needs: [u8; 4]) -> Conversion
         ensures { λ r. ⌜ r ≡ P.samples n self input needs ⌝ }
     {
-        let mut c = self;
+        let s = self.sampling;
+        let f = s.filter;
+        let mut registers = self.registers;
+        let mut history = f.history();
+        let mut t = self.rest();
         for _ in 0..n {
-            let d = c.sample(input, needs);
-            c = d;
+            let u = sample(&mut registers, &mut history, t, input, needs);
+            t = u;
         }
-        c
+        t.joined(registers, history)
     }
 }

@@ -1,5 +1,6 @@
 // What conversion needs and changes.
 use filter::Filter;
+use filter::Places;
 use interrupts::Interrupts;
 use time::Clock;
 
@@ -32,4 +33,16 @@ pub struct Conversion {
     pub registers: [u8; 62],
     pub sampling: Sampling,
     pub interrupts: Interrupts,
+}
+
+// A conversion without its registers and its filter's history, which are lent beside it.
+pub(crate) struct Rest {
+    pub(crate) places: Places,
+    pub(crate) filtered: [i16; 3],
+    pub(crate) clock: Clock,
+    pub(crate) asleep: bool,
+    pub(crate) auto_cycles: u16,
+    pub(crate) test: Test,
+    pub(crate) data_ready: bool,
+    pub(crate) interrupts: Interrupts,
 }

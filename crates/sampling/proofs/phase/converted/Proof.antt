@@ -1,14 +1,14 @@
-use Rattle.laws.specs.Signed.{Reach, holds, back}
-use mir.Syntax.{w16, w32, w64}
 use Prim.Native.Nat.{_^_}
+use mathlib.Core.Path.{_≡_, refl, sym, ap, _∙_}
+use mir.Syntax.{w16, w32, w64}
+use Rattle.laws.specs.Signed.{Reach, holds, back}
 use Rattle.sampling.specs.Phase.{converted}
-use mathlib.Core.Path.{sym, _∙_}
 use borrow.Author.Needs.{needs}
 use Rattle.sampling.proofs.phase.converted.Statement.{statement}
 use Rattle.sampling.proofs.phase.converted.Tie as tie
 
-array-read-has : tie.Need-array-read-has
-array-read-has c = search needs
+element-copy-out-has : tie.Need-element-copy-out-has
+element-copy-out-has c = search needs
 
 has-requires : tie.Need-has-requires
 has-requires c κs = search needs
@@ -20,14 +20,14 @@ returns c = simp (sym (c .before .has .ensures) ∙ c .if1 .taken)
 add-low : tie.Need-add-low
 add-low c = search needs
 
-array-read-low : tie.Need-array-read-low
-array-read-low c = search needs
+element-copy-out-low : tie.Need-element-copy-out-low
+element-copy-out-low c = search needs
 
 add-high : tie.Need-add-high
 add-high c = search needs
 
-array-read-high : tie.Need-array-read-high
-array-read-high c = search needs
+element-copy-out-high : tie.Need-element-copy-out-high
+element-copy-out-high c = search needs
 
 sampled-requires : tie.Need-sampled-requires
 sampled-requires c κs = search needs
@@ -40,8 +40,8 @@ cast-code c =
 offset-requires : tie.Need-offset-requires
 offset-requires c κs = search needs
 
-array-read-range : tie.Need-array-read-range
-array-read-range c = search needs
+element-copy-out-range : tie.Need-element-copy-out-range
+element-copy-out-range c = search needs
 
 range-requires : tie.Need-range-requires
 range-requires c κs = search needs
@@ -52,26 +52,26 @@ code-requires c κs = search needs
 returns-2 : tie.Need-returns-2
 unfolding converted
 returns-2 c =
-    let v = c .before .before .before .sampled in
+    let v = c .before .before .before .before .sampled in
     let r : Reach (v .result) (2 ^ 31) = record { reach = v .ok } in
     let k : Reach (c .code .result) (2 ^ 15) = record { reach = c .code .ok } in
-    rw (sym (c .before .before .before .before .before .has .ensures) ∙ c .before .before .before .before .if1 .left, back w16 k tt, c .code .ensures, c .before .range .ensures, c .before .before .offset .ensures, back w32 r tt, back w64 r tt, v .ensures)
+    rw (sym (c .before .before .before .before .before .before .before .before .has .ensures) ∙ c .before .before .before .before .before .before .before .if1 .left, back w16 k tt, c .code .ensures, c .before .range .ensures, c .before .before .before .offset .ensures, back w32 r tt, back w64 r tt, v .ensures)
 
 pub converted-spec : {M : Type 1} → statement M
 converted-spec =
     tie.close
     (tie.spec
-    array-read-has
+    element-copy-out-has
     has-requires
     returns
     add-low
-    array-read-low
+    element-copy-out-low
     add-high
-    array-read-high
+    element-copy-out-high
     sampled-requires
     cast-code
     offset-requires
-    array-read-range
+    element-copy-out-range
     range-requires
     code-requires
     returns-2)

@@ -1,18 +1,27 @@
-use Prim.Native.Nat.{ℕ, _≤_, _-_, zero-le}
-use mathlib.Core.Path.{_≡_, refl, _∙_, ap}
+use mir.Val.{Fits}
+use mir.Syntax.{w64}
+use Prim.Native.Nat.{ℕ, _≤_, _<_, _+_, _-_, zero-le}
+use mathlib.Core.Path.{_≡_, refl, sym, ap, _∙_}
 use native.Mathlib.Omega.{arith}
 use native.Mathlib.Numerals.{add-one}
 use borrow.Author.Needs.{needs}
 use Rattle.laws.specs.Iterate.{iterate}
-use Rattle.sampling.specs.Phase.{sample, samples}
+use Rattle.sampling.specs.declared.types.Conversion.{Conversion}
+use Rattle.sampling.specs.Phase.{sample, samples, joined}
 use Rattle.sampling.proofs.types.Conversion.samples.Statement.{statement}
 use Rattle.sampling.proofs.types.Conversion.samples.Tie as tie
 
 abbrev Inv-loop : tie.InvT-loop
-Inv-loop n input needs c₀ counter₀ c counter = (counter ≤ n) × (c ≡ samples counter c₀ input needs)
+Inv-loop n input needs registers₀ history₀ t₀ counter₀ registers history t counter = (counter ≤ n) × (joined registers history t ≡ samples counter (joined registers₀ history₀ t₀) input needs)
 
 abbrev μ-loop : tie.MeasureT-loop
-μ-loop n input needs c₀ counter₀ c counter = n - counter
+μ-loop n input needs registers₀ history₀ t₀ counter₀ registers history t counter = n - counter
+
+history-requires : tie.Need-history-requires Inv-loop μ-loop
+history-requires c κs = search needs
+
+rest-requires : tie.Need-rest-requires Inv-loop μ-loop
+rest-requires c κs = search needs
 
 loop-holds : tie.Need-loop-holds Inv-loop μ-loop
 unfolding iterate
@@ -22,7 +31,11 @@ sample-requires : tie.Need-sample-requires Inv-loop μ-loop
 sample-requires c κs = search needs
 
 add-counter : tie.Need-add-counter Inv-loop μ-loop
-add-counter c = omega arith
+add-counter c =
+    let a = c .before .before .before .before .before .before .before .before .before .before in
+    let k = c .before .before .before .before .loop .counter in
+    let below : k < a .args .n = c .before .before .before .loop-test .taken in
+    let g : Fits w64 (k + 1) = omega (arith, below, a .fits .n) in g
 
 loop-less : tie.Need-loop-less Inv-loop μ-loop
 loop-less c = omega arith
@@ -30,14 +43,21 @@ loop-less c = omega arith
 loop-again : tie.Need-loop-again Inv-loop μ-loop
 unfolding iterate
 loop-again c =
-    let a = c .before .before .before .args in
-    (omega arith, rw add-one (c .sample .ensures ∙ ap (sample (a .input) (a .needs)) (c .before .before .loop .inv .1)))
+    let a = c .before .before .before .before .before .before .before .before .before .before .args in
+    (omega arith, rw add-one (c .sample .ensures ∙ ap (sample (a .input) (a .needs)) (c .before .before .before .before .loop .inv .1)))
+
+joined-requires : tie.Need-joined-requires Inv-loop μ-loop
+joined-requires c κs = search needs
 
 returns : tie.Need-returns Inv-loop μ-loop
 returns c =
-    let a = c .before .before .args in
-    let e : c .before .loop .counter ≡ a .n = omega arith in
-    c .before .loop .inv .1 ∙ ap (λ (k : ℕ). samples k (a .self) (a .input) (a .needs)) e
+    let a = c .before .before .before .before .before .before .before .before .args in
+    let start = joined (a .self .registers) (c .before .before .before .before .history .result) (c .before .before .before .rest .result) in
+    let whole : start ≡ a .self = rw (c .before .before .before .before .history .ensures, c .before .before .before .rest .ensures) in
+    let e : c .before .before .loop .counter ≡ a .n = omega arith in
+    c .joined .ensures ∙ c .before .before .loop .inv .1
+    ∙ ap (λ (k : ℕ). samples k start (a .input) (a .needs)) e
+    ∙ ap (λ (k : Conversion). samples (a .n) k (a .input) (a .needs)) whole
 
 pub samples-spec : {M : Type 1} → statement M
 samples-spec =
@@ -45,9 +65,12 @@ samples-spec =
     (tie.spec
     Inv-loop
     μ-loop
+    history-requires
+    rest-requires
     loop-holds
     sample-requires
     add-counter
     loop-less
     loop-again
+    joined-requires
     returns)
