@@ -1,6 +1,7 @@
 // One criterion, high-g or low-g.
 ghost use mathlib.Core.Path.{_≡_};
-ghost use Prim.Native.Nat.{_%_};
+ghost use Prim.Native.Nat.{_%_, _<_};
+ghost use lib.ListN.{set};
 ghost use Rattle.interrupts.specs.Criteria.{sets, clears, raised, active, observe, fires, counted, tick, restarted, cleared};
 use crate::numbers::both;
 use crate::numbers::either;
@@ -55,6 +56,24 @@ fn raised(high: bool, code: i16, threshold: u8, hysteresis: u8, old: bool) -> bo
         return false;
     }
     old
+}
+
+// The axes with one set anew. Only constants index them, so that the compiler need not keep the record in memory.
+fn with_axis(axes: [bool; 3], axis: usize, value: bool) -> [bool; 3]
+    requires { ⌜ axis < 3 ⌝ }
+    ensures { λ r. ⌜ r ≡ set axes axis value ⌝ }
+{
+    let mut s = axes;
+    if axis == 0 {
+        s[0] = value;
+        return s;
+    }
+    if axis == 1 {
+        s[1] = value;
+        return s;
+    }
+    s[2] = value;
+    s
 }
 
 // High-g needs one axis, low-g all.
@@ -150,9 +169,9 @@ impl Threshold {
         ensures { λ r. ⌜ r ≡ observe self (axis % 3) code threshold hysteresis high ⌝ }
     {
         let a = (axis % 3) as usize;
-        let old = self.axes[a];
-        self.axes[a] = raised(high, code, threshold, hysteresis, old);
-        let axes = self.axes;
+        let was = self.axes;
+        let axes = with_axis(was, a, raised(high, code, threshold, hysteresis, was[a]));
+        self.axes = axes;
         let level = self.level;
         self.level = both(active(high, axes), level);
         self

@@ -8,14 +8,14 @@ use Rattle.interrupts.proofs.threshold.Threshold.observe.Tie as tie
 cast-a : tie.Need-cast-a
 cast-a c = search needs
 
-element-copy-out-old : tie.Need-element-copy-out-old
-element-copy-out-old c = search needs
+array-read-raised : tie.Need-array-read-raised
+array-read-raised c = search needs
 
 raised-requires : tie.Need-raised-requires
 raised-requires c κs = search needs
 
-element-write-self : tie.Need-element-write-self
-element-write-self c = search needs
+with-axis-requires : tie.Need-with-axis-requires
+with-axis-requires c κs = search needs
 
 active-requires : tie.Need-active-requires
 active-requires c κs = search needs
@@ -25,16 +25,16 @@ both-requires c κs = search needs
 
 returns : tie.Need-returns
 unfolding observe
-returns c = rw (c .both .ensures, c .before .active .ensures, c .before .before .before .raised .ensures, back w16 (of-fits (c .before .before .before .before .before .fits .code)) tt)
+returns c = rw (c .both .ensures, c .before .active .ensures, c .before .before .with-axis .ensures, c .before .before .before .raised .ensures, back w16 (of-fits (c .before .before .before .before .before .fits .code)) tt)
 
 pub observe-spec : {M : Type 1} → statement M
 observe-spec =
     tie.close
     (tie.spec
     cast-a
-    element-copy-out-old
+    array-read-raised
     raised-requires
-    element-write-self
+    with-axis-requires
     active-requires
     both-requires
     returns)
