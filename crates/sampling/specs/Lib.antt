@@ -1,1 +1,2 @@
 pub mod Phase
+pub mod Apart

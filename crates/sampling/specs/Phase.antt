@@ -10,7 +10,6 @@ use Rattle.laws.specs.Iterate.{iterate}
 use Rattle.time.specs.declared.Clock.{Clock}
 use Rattle.time.specs.Clock as C
 use Rattle.filter.specs.declared.Filter.{Filter}
-use Rattle.filter.specs.Filter as F
 use Rattle.filter.specs.Filter.{window, pushed, answered}
 use Rattle.registers.specs.Map.{at, acc-lsb, acc-msb, temp, status, control, measurement, operation, offset-lsb, offset-msb, new-data, self-test-1, range, new-data-INT, wake-up}
 use Rattle.registers.specs.Codes.{offset, code, code-low, code-high, temperature}
@@ -22,7 +21,6 @@ use Rattle.sampling.specs.declared.types.Test.{Test}
 use Rattle.sampling.specs.declared.types.Test.the-variants.{Off, Phases}
 use Rattle.sampling.specs.declared.types.Sampling.{Sampling}
 use Rattle.sampling.specs.declared.types.Conversion.{Conversion}
-use Rattle.sampling.specs.declared.types.Rest.{Rest}
 
 -- ---- parts of the record
 
@@ -46,38 +44,6 @@ with-filtered s f codes = record { filter = f; filtered = codes; clock = s .cloc
 
 abbrev pub with-scan : Sampling → ℕ → Bool → Sampling
 with-scan s n ready = record { filter = s .filter; filtered = s .filtered; clock = s .clock; asleep = s .asleep; «auto_cycles» = n; test = s .test; «data_ready» = ready }
-
--- ---- a conversion in three: its registers, its filter's history, and the rest
-
-abbrev pub rest : Conversion → Rest
-rest c = record {
-  places = F.places (c .sampling .filter);
-  filtered = c .sampling .filtered;
-  clock = c .sampling .clock;
-  asleep = c .sampling .asleep;
-  «auto_cycles» = c .sampling .«auto_cycles»;
-  test = c .sampling .test;
-  «data_ready» = c .sampling .«data_ready»;
-  interrupts = c .interrupts;
-}
-
-abbrev pub joined : List ℕ → List ℤ → Rest → Conversion
-joined registers history t = record {
-  registers = registers;
-  sampling = record {
-    filter = F.joined history (t .places);
-    filtered = t .filtered;
-    clock = t .clock;
-    asleep = t .asleep;
-    «auto_cycles» = t .«auto_cycles»;
-    test = t .test;
-    «data_ready» = t .«data_ready»;
-  };
-  interrupts = t .interrupts;
-}
-
-abbrev pub rest-with-test : Rest → Test → Rest
-rest-with-test t test = record { places = t .places; filtered = t .filtered; clock = t .clock; asleep = t .asleep; «auto_cycles» = t .«auto_cycles»; test = test; «data_ready» = t .«data_ready»; interrupts = t .interrupts }
 
 -- ---- acquisition
 

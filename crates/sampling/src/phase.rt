@@ -7,6 +7,7 @@ ghost use lib.IntN.{ℤ};
 ghost use Prim.Native.Nat.{_<_, _≤_, _+_, min};
 ghost use Rattle.registers.specs.Map.{wake-up};
 ghost use Rattle.control.specs.Waits.{acquisition-cycles};
+ghost use Rattle.sampling.specs.Apart as Apart;
 ghost use Rattle.sampling.specs.Phase as P;
 use crate::types::Conversion;
 use crate::types::Input;
@@ -162,52 +163,6 @@ impl Sampling {
     }
 }
 
-impl Rest {
-    fn with_test(self, test: Test) -> Rest
-        ensures { λ r. ⌜ r ≡ P.rest-with-test self test ⌝ }
-    {
-        let places = self.places;
-        let codes = self.filtered;
-        let clock = self.clock;
-        let interrupts = self.interrupts;
-        Rest {
-            places: places,
-            filtered: codes,
-            clock: clock,
-            asleep: self.asleep,
-            auto_cycles: self.auto_cycles,
-            test: test,
-            data_ready: self.data_ready,
-            interrupts: interrupts,
-        }
-    }
-
-    // The conversion of this, registers and a history.
-    fn joined(self, registers: [u8; 62], history: [i16; 192]) -> Conversion
-        ensures { λ r. ⌜ r ≡ P.joined registers history self ⌝ }
-    {
-        let places = self.places;
-        let codes = self.filtered;
-        let clock = self.clock;
-        let test = self.test;
-        let interrupts = self.interrupts;
-        let sampling = Sampling {
-            filter: places.joined(history),
-            filtered: codes,
-            clock: clock,
-            asleep: self.asleep,
-            auto_cycles: self.auto_cycles,
-            test: test,
-            data_ready: self.data_ready,
-        };
-        Conversion {
-            registers: registers,
-            sampling: sampling,
-            interrupts: interrupts,
-        }
-    }
-}
-
 // A code of an axis is filtered, and the answer shown.
 fn measured(
     registers: &mut [u8; 62],
@@ -217,7 +172,7 @@ fn measured(
     axis: u8,
 ) -> Rest
     requires { ⌜ axis < 3 ⌝ }
-    ensures { λ r. ⌜ P.joined (now (registers .exit)) (now (history .exit)) r ≡ P.measured (P.joined (now (registers .entry)) (now (history .entry)) t) input axis ⌝ }
+    ensures { λ r. ⌜ Apart.joined (now (registers .exit)) (now (history .exit)) r ≡ P.measured (Apart.joined (now (registers .entry)) (now (history .entry)) t) input axis ⌝ }
 {
     let a = axis as usize;
     let places = t.places;
@@ -239,7 +194,7 @@ fn measured(
 
 // The scan is complete: it is counted, and observed for motion.
 fn scanned(registers: &[u8; 62], t: Rest, needs: [u8; 4]) -> Rest
-    ensures { λ r. ⌜ ((h : List ℤ) → P.joined (now (registers .entry)) h r ≡ P.observed (P.counted (P.joined (now (registers .entry)) h t)) needs) ⌝ }
+    ensures { λ r. ⌜ ((h : List ℤ) → Apart.joined (now (registers .entry)) h r ≡ P.observed (P.counted (Apart.joined (now (registers .entry)) h t)) needs) ⌝ }
 {
     let r = *registers;
     let operation = r[OPERATION];
@@ -258,7 +213,7 @@ fn scanned(registers: &[u8; 62], t: Rest, needs: [u8; 4]) -> Rest
 }
 
 fn test_ended(registers: &mut [u8; 62], t: Rest) -> Rest
-    ensures { λ r. ⌜ ((h : List ℤ) → P.joined (now (registers .exit)) h r ≡ P.test-ended (P.joined (now (registers .entry)) h t)) ⌝ }
+    ensures { λ r. ⌜ ((h : List ℤ) → Apart.joined (now (registers .exit)) h r ≡ P.test-ended (Apart.joined (now (registers .entry)) h t)) ⌝ }
 {
     let control = registers[CONTROL] & 0xfb;
     let status = registers[STATUS] | 0x80;
@@ -276,7 +231,7 @@ fn axis_phase(
     needs: [u8; 4],
 ) -> Rest
     requires { ⌜ (0 < phase) × (phase < 4) ⌝ }
-    ensures { λ r. ⌜ P.joined (now (registers .exit)) (now (history .exit)) r ≡ P.axis-phase (t .test) (P.joined (now (registers .entry)) (now (history .entry)) t) input phase needs ⌝ }
+    ensures { λ r. ⌜ Apart.joined (now (registers .exit)) (now (history .exit)) r ≡ P.axis-phase (t .test) (Apart.joined (now (registers .entry)) (now (history .entry)) t) input phase needs ⌝ }
 {
     let test = t.test;
     match test {
@@ -306,7 +261,7 @@ fn sample_phase(
     input: Input,
     needs: [u8; 4],
 ) -> Rest
-    ensures { λ r. ⌜ P.joined (now (registers .exit)) (now (history .exit)) r ≡ P.sample-phase (P.joined (now (registers .entry)) (now (history .entry)) t) input needs ⌝ }
+    ensures { λ r. ⌜ Apart.joined (now (registers .exit)) (now (history .exit)) r ≡ P.sample-phase (Apart.joined (now (registers .entry)) (now (history .entry)) t) input needs ⌝ }
 {
     let clock = t.clock;
     let test = t.test;
@@ -321,7 +276,7 @@ fn sample_phase(
 
 // A millisecond passes at every twelfth edge.
 fn ticked(registers: &[u8; 62], t: Rest) -> Rest
-    ensures { λ r. ⌜ ((h : List ℤ) → P.joined (now (registers .entry)) h r ≡ P.ticked (P.joined (now (registers .entry)) h t)) ⌝ }
+    ensures { λ r. ⌜ ((h : List ℤ) → Apart.joined (now (registers .entry)) h r ≡ P.ticked (Apart.joined (now (registers .entry)) h t)) ⌝ }
 {
     let clock = t.clock;
     if clock.ordinal % 12 == 0 {
@@ -345,7 +300,7 @@ fn sample(
     input: Input,
     needs: [u8; 4],
 ) -> Rest
-    ensures { λ r. ⌜ P.joined (now (registers .exit)) (now (history .exit)) r ≡ P.sample input needs (P.joined (now (registers .entry)) (now (history .entry)) t) ⌝ }
+    ensures { λ r. ⌜ Apart.joined (now (registers .exit)) (now (history .exit)) r ≡ P.sample input needs (Apart.joined (now (registers .entry)) (now (history .entry)) t) ⌝ }
 {
     let clock = t.clock;
     let mut u = t;
@@ -355,28 +310,6 @@ fn sample(
 }
 
 impl Conversion {
-    // All but the registers and the filter's history.
-    fn rest(self) -> Rest
-        ensures { λ r. ⌜ r ≡ P.rest self ⌝ }
-    {
-        let s = self.sampling;
-        let f = s.filter;
-        let codes = s.filtered;
-        let clock = s.clock;
-        let test = s.test;
-        let interrupts = self.interrupts;
-        Rest {
-            places: f.places(),
-            filtered: codes,
-            clock: clock,
-            asleep: s.asleep,
-            auto_cycles: s.auto_cycles,
-            test: test,
-            data_ready: s.data_ready,
-            interrupts: interrupts,
-        }
-    }
-
     // So many edges.
     pub fn samples(self, n: u64, input: Input, needs: [u8; 4]) -> Conversion
         ensures { λ r. ⌜ r ≡ P.samples n self input needs ⌝ }

@@ -7,7 +7,8 @@ use native.Mathlib.Numerals.{add-one}
 use borrow.Author.Needs.{needs}
 use Rattle.laws.specs.Iterate.{iterate}
 use Rattle.sampling.specs.declared.types.Conversion.{Conversion}
-use Rattle.sampling.specs.Phase.{sample, samples, joined}
+use Rattle.sampling.specs.Apart.{joined}
+use Rattle.sampling.specs.Phase.{sample, samples}
 use Rattle.sampling.proofs.types.Conversion.samples.Statement.{statement}
 use Rattle.sampling.proofs.types.Conversion.samples.Tie as tie
 
