@@ -1,9 +1,9 @@
 // Any motion: an observation is compared with the one three earlier.
 ghost use mathlib.Core.Path.{_≡_};
 ghost use mathlib.Core.Bool.{not, _&&_, _||_};
-ghost use Prim.Native.Nat.{_*_, _%_};
+ghost use Prim.Native.Nat.{_*_, _%_, _<_};
 ghost use lib.Dec.{leb};
-ghost use Rattle.interrupts.specs.State.{moved, moves, record-codes, count-motion, qualifies, alerts, detects, decide, observation, cycle};
+ghost use Rattle.interrupts.specs.State.{moved, moves, put, record-codes, count-motion, qualifies, alerts, detects, decide, observation, cycle};
 use crate::Interrupts;
 use crate::numbers::distance;
 use crate::numbers::either;
@@ -82,15 +82,38 @@ fn kept(need: u8, clear: u8, level: bool) -> bool
     level
 }
 
+// Three codes put in the history, the cursor telling which three. Only constants index it, as in `with_axis`.
+fn put(history: [i16; 9], cursor: u8, codes: [i16; 3]) -> [i16; 9]
+    requires { ⌜ cursor < 3 ⌝ }
+    ensures { λ r. ⌜ r ≡ put history (cursor * 3) codes ⌝ }
+{
+    let mut h = history;
+    if cursor == 0 {
+        h[0] = codes[0];
+        h[1] = codes[1];
+        h[2] = codes[2];
+        return h;
+    }
+    if cursor == 1 {
+        h[3] = codes[0];
+        h[4] = codes[1];
+        h[5] = codes[2];
+        return h;
+    }
+    h[6] = codes[0];
+    h[7] = codes[1];
+    h[8] = codes[2];
+    h
+}
+
 impl Interrupts {
     // The observation takes the place of the one three earlier.
     fn record_codes(mut self, codes: [i16; 3]) -> Interrupts
         ensures { λ r. ⌜ r ≡ record-codes self codes ⌝ }
     {
-        let p = (self.cursor % 3) as usize * 3;
-        self.history[p] = codes[0];
-        self.history[p + 1] = codes[1];
-        self.history[p + 2] = codes[2];
+        let history = self.history;
+        let with = put(history, self.cursor % 3, codes);
+        self.history = with;
         self.cursor = (self.cursor % 3 + 1) % 3;
         self.observations = raised_to(4, self.observations);
         self.divider = 0;
