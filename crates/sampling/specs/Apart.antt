@@ -7,6 +7,7 @@ use Rattle.sampling.specs.declared.types.Test.{Test}
 use Rattle.sampling.specs.declared.types.Conversion.{Conversion}
 use Rattle.sampling.specs.declared.types.Rest.{Rest}
 
+-- the rest of a conversion
 abbrev pub rest : Conversion → Rest
 rest c = record {
   places = F.places (c .sampling .filter);
@@ -19,6 +20,7 @@ rest c = record {
   interrupts = c .interrupts;
 }
 
+-- the conversion of the three
 abbrev pub joined : List ℕ → List ℤ → Rest → Conversion
 joined registers history t = record {
   registers = registers;
@@ -34,5 +36,6 @@ joined registers history t = record {
   interrupts = t .interrupts;
 }
 
+-- the rest with another self test
 abbrev pub with-test : Rest → Test → Rest
 with-test t test = record { places = t .places; filtered = t .filtered; clock = t .clock; asleep = t .asleep; «auto_cycles» = t .«auto_cycles»; test = test; «data_ready» = t .«data_ready»; interrupts = t .interrupts }

@@ -1,5 +1,5 @@
 use Prim.Native.Nat.{_^_}
-use mathlib.Core.Path.{_≡_, sym, _∙_}
+use mathlib.Core.Path.{_∙_}
 use mir.Syntax.{w16}
 use Rattle.laws.specs.Signed.{Reach, of-fits, back}
 use borrow.Author.Needs.{needs}

@@ -5,7 +5,7 @@ use lib.Dec.{eqb}
 use Rattle.sampling.specs.declared.types.Input.{Input}
 use Rattle.sampling.specs.declared.types.Test.{Test}
 use Rattle.sampling.specs.declared.types.Test.the-variants.{Off}
-use mathlib.Core.Path.{_≡_, refl, sym, ap, _∙_}
+use mathlib.Core.Path.{_≡_, ap, _∙_}
 use borrow.Author.Tests.{eq-eqb, ne-eqb}
 use Rattle.sampling.specs.declared.types.Conversion.{Conversion}
 use Rattle.sampling.specs.Phase.{axis-phase, scanned, observed, counted, measured}

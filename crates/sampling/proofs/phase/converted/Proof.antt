@@ -1,5 +1,5 @@
 use Prim.Native.Nat.{_^_}
-use mathlib.Core.Path.{_≡_, refl, sym, ap, _∙_}
+use mathlib.Core.Path.{sym, _∙_}
 use mir.Syntax.{w16, w32, w64}
 use Rattle.laws.specs.Signed.{Reach, holds, back}
 use Rattle.sampling.specs.Phase.{converted}

@@ -1,5 +1,5 @@
 use Prim.Native.Nat.{_^_}
-use mathlib.Core.Path.{_≡_, refl, sym, ap, _∙_}
+use mathlib.Core.Path.{ap, _∙_}
 use mir.Syntax.{w16}
 use mir.Facts.{toZ-ofZ}
 use Rattle.laws.specs.Signed.{Reach, back}

@@ -1,4 +1,4 @@
-use mathlib.Core.Path.{_≡_, refl, sym, ap, _∙_}
+use mathlib.Core.Path.{ap, _∙_}
 use Rattle.sampling.specs.Phase.{sample, ticked}
 use borrow.Author.Needs.{needs}
 use Rattle.sampling.proofs.phase.sample.Statement.{statement}

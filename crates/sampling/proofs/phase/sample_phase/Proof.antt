@@ -1,6 +1,5 @@
 use mir.Syntax.{w32}
 use mir.Facts.{toZ-ofZ}
-use mathlib.Core.Path.{_≡_, refl, sym, ap, _∙_}
 use borrow.Author.Tests.{eq-eqb, ne-eqb}
 use Rattle.sampling.specs.Phase.{sample-phase}
 use borrow.Author.Needs.{needs}

@@ -1,4 +1,4 @@
-use mathlib.Core.Path.{_≡_, refl, sym, ap, _∙_}
+use mathlib.Core.Path.{sym, _∙_}
 use Rattle.sampling.specs.Phase.{observed, observing, interval}
 use borrow.Author.Needs.{needs}
 use Rattle.sampling.proofs.phase.scanned.Statement.{statement}

@@ -1,7 +1,7 @@
 use mir.Val.{Fits}
 use mir.Syntax.{w64}
 use Prim.Native.Nat.{ℕ, _≤_, _<_, _+_, _-_, zero-le}
-use mathlib.Core.Path.{_≡_, refl, sym, ap, _∙_}
+use mathlib.Core.Path.{_≡_, refl, ap, _∙_}
 use native.Mathlib.Omega.{arith}
 use native.Mathlib.Numerals.{add-one}
 use borrow.Author.Needs.{needs}
