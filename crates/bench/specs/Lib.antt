@@ -1,0 +1,6 @@
+pub mod Put
+pub mod Text
+pub mod Line
+pub mod Run
+pub mod Block
+pub mod Whole

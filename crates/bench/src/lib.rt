@@ -1,0 +1,80 @@
+// The bench program's library: commands to calls, replies to lines, and the run over a block of input.
+ghost use mathlib.Core.Path.{_≡_};
+ghost use Prim.Native.Nat.{_≤_};
+ghost use lib.ListN.{length, drop};
+ghost use lib.Seq.{sets};
+ghost use Rattle.bench.specs.Run.{Bench};
+ghost use Rattle.bench.specs.Block as B;
+use crate::lines::write_line;
+use crate::steps::serve;
+use bma150::types::Bma150;
+use commands::decode;
+use commands::is_bad;
+use commands::size;
+
+mod lines;
+mod steps;
+mod text;
+pub mod types;
+
+// After a block: the sensor, the bytes read, the bytes written, and whether refusal 7 stopped it.
+pub struct Ran {
+    pub sensor: Bma150,
+    pub read: usize,
+    pub written: usize,
+    pub stop: bool,
+}
+
+// The bytes that a command may want: the longest has 32; any number once no more come.
+pub fn least(over: bool) -> usize
+    ensures { λ r. ⌜ r ≡ B.least over ⌝ }
+{
+    if over {
+        return 1;
+    }
+    32
+}
+
+// The commands of a block of input, while enough bytes are left and a line fits.
+pub fn run(input: &[u8], over: bool, trace: bool, out: &mut [u8; 65536], sensor: Bma150) -> Ran
+    ensures { λ r. ⌜ r ≡ B.answer (length (now (input .entry))) (B.block trace over sensor (now (input .entry))) ⌝ }
+    ensures { λ r. ⌜ now (out .exit) ≡ sets (now (out .entry)) 0 (B.block trace over sensor (now (input .entry)) .text) ⌝ }
+    ensures { λ r. ⌜ B.block trace over sensor (now (input .entry)) .left ≡ drop (r .read) (now (input .entry)) ⌝ }
+    ensures { λ r. ⌜ (r .read ≤ length (now (input .entry))) × (r .written ≤ 65536) ⌝ }
+{
+    let enough = least(over);
+    let mut at: usize = 0;
+    let mut p: usize = 0;
+    let mut n = sensor;
+    while enough <= input.len() - at {
+        if 65408 < p {
+            return Ran {
+                sensor: n,
+                read: at,
+                written: p,
+                stop: false,
+            };
+        }
+        let b = input[at];
+        let c = decode(input, at);
+        let r = serve(n, c, input, at);
+        p = write_line(out, p, trace, b, r);
+        at += size(c);
+        let m = r.sensor;
+        n = m;
+        if is_bad(c) {
+            return Ran {
+                sensor: n,
+                read: at,
+                written: p,
+                stop: true,
+            };
+        }
+    }
+    Ran {
+        sensor: n,
+        read: at,
+        written: p,
+        stop: false,
+    }
+}

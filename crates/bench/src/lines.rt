@@ -1,0 +1,230 @@
+// A command's line: the command in hexadecimal, the word, the pins, what the command adds, the trace's next due, a line feed.
+ghost use mathlib.Core.Path.{_≡_};
+ghost use mathlib.Core.List.{[], _∷_};
+ghost use Prim.Native.Nat.{_+_, _≤_, _<_};
+ghost use lib.Dec.{eqb};
+ghost use lib.ListN.{length};
+ghost use Rattle.deadlines.specs.Deadlines.{moment};
+ghost use Rattle.refusals.specs.Table as R;
+ghost use Rattle.bma150.specs.Calls as K;
+ghost use Rattle.bench.specs.Put.{Put};
+ghost use Rattle.bench.specs.Text as T;
+ghost use Rattle.bench.specs.Line as L;
+use crate::text::put;
+use crate::text::put_hex;
+use crate::text::put_hex16;
+use crate::text::put_hexes;
+use crate::text::put_word;
+use crate::types::Extra;
+use crate::types::Served;
+use bma150::types::Bma150;
+use bma150::types::Report;
+use bma150::types::View;
+use deadlines::Deadline;
+use refusals::types::Outcome;
+use refusals::types::Refusal;
+use spi::types::Drive;
+
+fn put_refusal(out: &mut [u8; 65536], o: usize, why: Refusal) -> usize
+    requires { ⌜ o + 12 ≤ 65536 ⌝ }
+    ensures { λ r. ⌜ Put (now (out .entry)) o (T.word (R.refusal-number why)) (now (out .exit)) r ⌝ }
+    ensures { λ r. ⌜ r ≤ o + 12 ⌝ }
+{
+    match why {
+        Refusal::ImageLength => put_word(out, o, b"image-length"),
+        Refusal::AxisRange => put_word(out, o, b"axis-range"),
+        Refusal::TimeLimit => put_word(out, o, b"time-limit"),
+        Refusal::TimeBack => put_word(out, o, b"time-back"),
+        Refusal::DueFirst => put_word(out, o, b"due-first"),
+        Refusal::NotDue => put_word(out, o, b"not-due"),
+        Refusal::Command => put_word(out, o, b"command"),
+    }
+}
+
+fn put_outcome(out: &mut [u8; 65536], o: usize, outcome: Outcome) -> usize
+    requires { ⌜ o + 12 ≤ 65536 ⌝ }
+    ensures { λ r. ⌜ Put (now (out .entry)) o (T.word (R.number outcome)) (now (out .exit)) r ⌝ }
+    ensures { λ r. ⌜ r ≤ o + 12 ⌝ }
+{
+    match outcome {
+        Outcome::Accepted => put_word(out, o, b"ok"),
+        Outcome::Refused(why) => put_refusal(out, o, why),
+    }
+}
+
+fn bit(b: bool) -> u8
+    ensures { λ r. ⌜ r ≡ T.bit b ⌝ }
+{
+    if b {
+        return b'1';
+    }
+    b'0'
+}
+
+fn letter(d: Drive) -> u8
+    ensures { λ r. ⌜ r ≡ K.drive-letter d ⌝ }
+{
+    match d {
+        Drive::Floating => b'F',
+        Drive::Low => b'L',
+        Drive::High => b'H',
+    }
+}
+
+// Interrupt, four-wire output, data pin.
+fn put_pins(out: &mut [u8; 65536], o: usize, s: Bma150) -> usize
+    requires { ⌜ o + 6 ≤ 65536 ⌝ }
+    ensures { λ r. ⌜ Put (now (out .entry)) o (L.pins s) (now (out .exit)) r ⌝ }
+    ensures { λ r. ⌜ r ≤ o + 6 ⌝ }
+{
+    let i = bit(s.interrupt());
+    let f = letter(s.output());
+    let d = letter(s.data_output());
+    let p1 = put(out, o, b' ');
+    let p2 = put(out, p1, i);
+    let p3 = put(out, p2, b' ');
+    let p4 = put(out, p3, f);
+    let p5 = put(out, p4, b' ');
+    put(out, p5, d)
+}
+
+fn put_view(out: &mut [u8; 65536], o: usize, v: View) -> usize
+    requires { ⌜ o + 3 ≤ 65536 ⌝ }
+    ensures { λ r. ⌜ Put (now (out .entry)) o (T.view-text (K.view-value v)) (now (out .exit)) r ⌝ }
+    ensures { λ r. ⌜ r ≤ o + 3 ⌝ }
+{
+    match v {
+        View::Byte(b) => {
+            let p = put(out, o, b' ');
+            put_hex(out, p, b)
+        }
+        View::Withheld => put_word(out, o, b" --"),
+    }
+}
+
+// An address and a byte.
+fn put_stored(out: &mut [u8; 65536], o: usize, a: u8, v: u8) -> usize
+    requires { ⌜ o + 6 ≤ 65536 ⌝ }
+    ensures { λ r. ⌜ Put (now (out .entry)) o (T.spaced (a ∷ v ∷ [])) (now (out .exit)) r ⌝ }
+    ensures { λ r. ⌜ r ≤ o + 6 ⌝ }
+{
+    let p1 = put(out, o, b' ');
+    let p2 = put_hex(out, p1, a);
+    let p3 = put(out, p2, b' ');
+    put_hex(out, p3, v)
+}
+
+fn put_report(out: &mut [u8; 65536], o: usize, w: Report) -> usize
+    requires { ⌜ o + 8 ≤ 65536 ⌝ }
+    ensures { λ r. ⌜ Put (now (out .entry)) o (T.report-text (K.report-values w)) (now (out .exit)) r ⌝ }
+    ensures { λ r. ⌜ r ≤ o + 8 ⌝ }
+{
+    match w {
+        Report::Nothing => put_word(out, o, b" -"),
+        Report::Completed(a, v) => {
+            let p = put_word(out, o, b" C");
+            put_stored(out, p, a, v)
+        }
+        Report::Cut(a, v) => {
+            let p = put_word(out, o, b" X");
+            put_stored(out, p, a, v)
+        }
+    }
+}
+
+fn put_extra(out: &mut [u8; 65536], o: usize, x: Extra, image: &[u8; 19]) -> usize
+    requires { ⌜ o + 39 ≤ 65536 ⌝ }
+    ensures { λ r. ⌜ Put (now (out .entry)) o (L.extra-text x (now (image .entry))) (now (out .exit)) r ⌝ }
+    ensures { λ r. ⌜ r ≤ o + 39 ⌝ }
+{
+    match x {
+        Extra::Nothing => o,
+        Extra::Reported(w) => put_report(out, o, w),
+        Extra::Viewed(v) => put_view(out, o, v),
+        Extra::Image => {
+            let p = put(out, o, b' ');
+            put_hexes(out, p, image)
+        }
+    }
+}
+
+fn refused(why: Refusal) -> bool
+    ensures { λ r. ⌜ r ≡ eqb (R.refusal-number why) 0 ⌝ }
+{
+    match why {
+        Refusal::ImageLength => false,
+        Refusal::AxisRange => false,
+        Refusal::TimeLimit => false,
+        Refusal::TimeBack => false,
+        Refusal::DueFirst => false,
+        Refusal::NotDue => false,
+        Refusal::Command => false,
+    }
+}
+
+// Whether the number of an outcome is 0.
+pub(crate) fn accepted(outcome: Outcome) -> bool
+    ensures { λ r. ⌜ r ≡ eqb (R.number outcome) 0 ⌝ }
+{
+    match outcome {
+        Outcome::Accepted => true,
+        Outcome::Refused(why) => refused(why),
+    }
+}
+
+// What an accepted command adds; a refused one adds nothing.
+fn put_added(out: &mut [u8; 65536], o: usize, outcome: Outcome, x: Extra, image: &[u8; 19]) -> usize
+    requires { ⌜ o + 39 ≤ 65536 ⌝ }
+    ensures { λ r. ⌜ Put (now (out .entry)) o (L.added (R.number outcome) (L.extra-text x (now (image .entry)))) (now (out .exit)) r ⌝ }
+    ensures { λ r. ⌜ r ≤ o + 39 ⌝ }
+{
+    if accepted(outcome) {
+        return put_extra(out, o, x, image);
+    }
+    o
+}
+
+fn put_moment(out: &mut [u8; 65536], o: usize, d: Deadline) -> usize
+    requires { ⌜ o + 33 ≤ 65536 ⌝ }
+    ensures { λ r. ⌜ Put (now (out .entry)) o (T.moment-text (moment d)) (now (out .exit)) r ⌝ }
+    ensures { λ r. ⌜ r ≤ o + 33 ⌝ }
+{
+    match d {
+        Deadline::At(t) => {
+            let p1 = put_hex16(out, o, t.0);
+            let p2 = put(out, p1, b' ');
+            put_hex16(out, p2, t.1)
+        }
+        Deadline::Never => put(out, o, b'-'),
+    }
+}
+
+fn put_due(out: &mut [u8; 65536], o: usize, trace: bool, s: Bma150) -> usize
+    requires { ⌜ o + 38 ≤ 65536 ⌝ }
+    ensures { λ r. ⌜ Put (now (out .entry)) o (T.due-text trace (K.next-due s)) (now (out .exit)) r ⌝ }
+    ensures { λ r. ⌜ r ≤ o + 38 ⌝ }
+{
+    if trace {
+        let p = put_word(out, o, b" due ");
+        return put_moment(out, p, s.next_due());
+    }
+    o
+}
+
+pub(crate) fn write_line(out: &mut [u8; 65536], o: usize, trace: bool, b: u8, r: Served) -> usize
+    requires { ⌜ o + 128 ≤ 65536 ⌝ }
+    ensures { λ n. ⌜ Put (now (out .entry)) o (L.line trace b (R.number (r .outcome)) (r .sensor) (L.extra-text (r .extra) (r .image))) (now (out .exit)) n ⌝ }
+    ensures { λ n. ⌜ n ≤ o + 128 ⌝ }
+{
+    let s = r.sensor;
+    let outcome = r.outcome;
+    let x = r.extra;
+    let image = r.image;
+    let p1 = put_hex(out, o, b);
+    let p2 = put(out, p1, b' ');
+    let p3 = put_outcome(out, p2, outcome);
+    let p4 = put_pins(out, p3, s);
+    let p5 = put_added(out, p4, outcome, x, &image);
+    let p6 = put_due(out, p5, trace, s);
+    put(out, p6, b'\n')
+}
