@@ -1,7 +1,7 @@
 -- Any split of an input, block by block, writes the text of the whole run; and after refusal 7 nothing more is written. Assumes nothing.
 use mathlib.Core.Path.{_≡_, refl, sym, ap, subst, _∙_}
-use mathlib.Core.Bool.{Bool, true, false, cond}
-use mathlib.Core.Logic.{_⊎_, inl, inr, ⊎-elim}
+use mathlib.Core.Bool.{Bool, true, false}
+use mathlib.Core.Logic.{_⊎_, inl, ⊎-elim}
 use mathlib.Core.List.{List, [], _∷_, _++_, append-assoc, append-nil}
 use Prim.Native.Nat.{ℕ, zero, suc, _+_, _≤_, _<_}
 use native.Mathlib.Omega.{arith}
@@ -11,7 +11,7 @@ use lib.ListN.{length, getD, drop}
 use Rattle.commands.specs.declared.Command.{Command}
 use Rattle.commands.specs.declared.Command.the-variants as Command
 use Rattle.commands.specs.Decode.{decoded, image, size, is-bad}
-use Rattle.commands.specs.More.{decoded-good}
+use Rattle.commands.specs.More.{decoded-good, unknown}
 use Rattle.bma150.specs.declared.types.Bma150.{Bma150}
 use Rattle.bench.specs.Line.{step, said}
 use Rattle.bench.specs.Run.{Bench, bench, done, turn, iter, whole, Goes, stay, and-then, one, turn-at}
@@ -144,3 +144,8 @@ after-refusal trace s l p m run none some bad bad-more =
     subst (λ (k : List ℕ). Goes trace s (l ++ (p ++ m)) (whole trace s l .text) n (k ++ (p ++ m)) false) none (goes-on trace s l (p ++ m) run) in
     let then = subst (λ (c : Command). Goes trace n (p ++ m) (said trace (getD p 0 0) n c (image p)) (step n c (image p)) (drop (size c) p ++ m) (is-bad c)) bad (one trace n p m some (bad-more ∙ sym bad)) in
     ap (λ (b : Bench). b .text) (whole-is (and-then first then) (inl bad-stops))
+
+-- so an unknown byte ends the text, whatever follows
+pub after-unknown : (trace : Bool) (s : Bma150) (l m : List ℕ) (b : ℕ) → whole trace s l .stop ≡ false → whole trace s l .left ≡ [] → 11 < b
+    → whole trace s (l ++ (b ∷ m)) .text ≡ whole trace s l .text ++ said trace b (whole trace s l .sensor) Command.Bad (image (b ∷ []))
+after-unknown trace s l m b run none h = after-refusal trace s l (b ∷ []) m run none (omega arith) (unknown b [] h) (unknown b m h)

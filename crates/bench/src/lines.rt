@@ -1,9 +1,8 @@
 // A command's line: the command in hexadecimal, the word, the pins, what the command adds, the trace's next due, a line feed.
 ghost use mathlib.Core.Path.{_≡_};
 ghost use mathlib.Core.List.{[], _∷_};
-ghost use Prim.Native.Nat.{_+_, _≤_, _<_};
+ghost use Prim.Native.Nat.{_+_, _≤_};
 ghost use lib.Dec.{eqb};
-ghost use lib.ListN.{length};
 ghost use Rattle.deadlines.specs.Deadlines.{moment};
 ghost use Rattle.refusals.specs.Table as R;
 ghost use Rattle.bma150.specs.Calls as K;

@@ -1,12 +1,11 @@
 -- What the bench program's loop has done: a history of steps of `bench`. Assumes nothing.
 use mathlib.Core.Path.{_≡_, refl, sym, ap, subst, _∙_}
 use mathlib.Core.Bool.{Bool, true, false}
-use mathlib.Core.List.{List, [], _∷_, _++_}
+use mathlib.Core.List.{List, [], _++_}
 use Prim.Native.Nat.{ℕ, _+_, _-_, _≤_}
 use native.Mathlib.Omega.{arith}
 use lib.ListN.{length, take, drop, length-take, length-drop}
 use lib.Seq.{take-add, drop-drop, drop-at, length-take-le}
-use Rattle.time.specs.declared.Time.{Time}
 use Rattle.bma150.specs.declared.types.Bma150.{Bma150}
 use Rattle.bma150.specs.Calls.{after-start}
 use Rattle.bma150.specs.Image.{stock}

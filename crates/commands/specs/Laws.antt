@@ -1,16 +1,13 @@
 -- Laws of the definitions of `Decode`, for the proofs. Assumes nothing.
 use mathlib.Core.Path.{_≡_, refl, sym, ap, _∙_}
-use mathlib.Core.Bool.{Bool, true, false, cond}
 use mathlib.Core.List.{List, [], _∷_, _++_}
-use Prim.Native.Nat.{ℕ, zero, suc, _+_, _-_, _*_, _≤_, _<_}
+use Prim.Native.Nat.{ℕ, _+_, _-_, _*_, _≤_, _<_}
 use native.Mathlib.Nat.{add-zero, add-assoc}
 use native.Mathlib.Numerals.{add-one}
 use native.Mathlib.Omega.{arith}
 use borrow.Author.Tests.{lt-ltb, le-ltb}
-use lib.Dec.{ltb, eqb}
 use lib.ListN.{length, take, drop, getD, length-drop}
 use lib.Seq.{take-suc, getD-drop, drop-drop}
-use Rattle.time.specs.declared.Time.{Time}
 use Rattle.commands.specs.declared.Command.{Command}
 use Rattle.commands.specs.declared.Command.the-variants as Command
 use Rattle.commands.specs.Decode.{part, big-from, big, number-at, moment-at, within}

@@ -2,17 +2,17 @@
 use mathlib.Core.Path.{_≡_, refl, sym, ap, _∙_}
 use mathlib.Core.Bool.{Bool, true, false, cond}
 use mathlib.Core.Logic.{_⊎_, inl, inr, ⊎-elim}
-use mathlib.Core.List.{List, [], _∷_, _++_}
+use mathlib.Core.List.{List, _∷_, _++_}
 use Prim.Native.Nat.{ℕ, _+_, _-_, _≤_, _<_}
 use native.Mathlib.Omega.{arith}
-use borrow.Author.Tests.{lt-ltb, le-ltb, ltb-true, ltb-false}
+use borrow.Author.Tests.{lt-ltb, le-ltb, ltb-true, ltb-false, ne-eqb}
 use lib.Dec.{ltb, eqb}
-use lib.ListN.{length, take, drop, getD, length-drop, length-append, List·getD-append}
+use lib.ListN.{length, take, drop, length-drop, length-append, List·getD-append}
 use lib.Seq.{drop-append-le, take-append-le}
 use Rattle.time.specs.declared.Time.{Time}
 use Rattle.commands.specs.declared.Command.{Command}
 use Rattle.commands.specs.declared.Command.the-variants as Command
-use Rattle.commands.specs.Decode.{part, big, number-at, moment-at, signed-at, byte-at, levels, within, either-of, lines, start, image, accelerations, temperature, supply, due, select, rising, falling, pins, stored-image, view, serial, named, decoded, size, is-bad}
+use Rattle.commands.specs.Decode.{part, big, number-at, moment-at, signed-at, byte-at, within, either-of, lines, start, image, accelerations, temperature, supply, due, select, rising, falling, pins, stored-image, view, serial, named, decoded, size, is-bad}
 
 -- ---- what follows does not alter the command at the head
 
@@ -279,3 +279,25 @@ started-fits l t false g e = let p : decoded l ≡ Command.Bad = rw g in absurd 
 
 pub image-there : (l : List ℕ) (t : Time) → decoded l ≡ Command.Start t → 32 ≤ length l
 image-there l t e = started-fits l t (ltb 0 (length l)) refl e
+
+-- ---- an unknown byte is a bad command, whatever follows
+
+pub unknown : (b : ℕ) (m : List ℕ) → 11 < b → decoded (b ∷ m) ≡ Command.Bad
+unfolding decoded named serial
+unknown b m h =
+    let other : (k : ℕ) → k ≤ 11 → eqb b k ≡ false = λ k g. ne-eqb b k (λ (e : b ≡ k). omega arith) in
+    let some : 0 < length (b ∷ m) = omega arith in
+    rw (
+      lt-ltb 0 (length (b ∷ m)) some,
+      other 1 (omega arith),
+      other 2 (omega arith),
+      other 3 (omega arith),
+      other 4 (omega arith),
+      other 5 (omega arith),
+      other 6 (omega arith),
+      other 7 (omega arith),
+      other 8 (omega arith),
+      other 9 (omega arith),
+      other 10 (omega arith),
+      other 11 (omega arith),
+    )

@@ -1,7 +1,7 @@
 // The bench program's commands: a byte and its operands, big-endian.
 ghost use mathlib.Core.Path.{_≡_};
 ghost use Prim.Native.Nat.{_+_, _≤_, _<_, _^_};
-ghost use lib.ListN.{length, drop, getD};
+ghost use lib.ListN.{length, drop};
 ghost use Rattle.commands.specs.Decode as D;
 use i2c::types::Levels;
 use time::Time;

@@ -5,13 +5,8 @@ use mathlib.Core.Bool.{Bool, true, false, cond}
 use mathlib.Core.List.{List, [], _∷_, _++_}
 use mathlib.Core.Option.{Option, none, some, Option·getD}
 use lib.Dec.{eqb, ltb}
-use lib.IntN.{ℤ}
-use lib.ListN.{length, getD, drop}
+use lib.ListN.{length, getD}
 use Rattle.time.specs.declared.Time.{Time}
-use Rattle.i2c.specs.declared.types.Levels.{Levels}
-use Rattle.spi.specs.declared.types.Drive.{Drive}
-use Rattle.deadlines.specs.declared.Deadline.{Deadline}
-use Rattle.bma150.specs.declared.types.Report.{Report}
 use Rattle.bma150.specs.declared.types.View.{View}
 use Rattle.bma150.specs.declared.types.Bma150.{Bma150}
 use Rattle.bma150.specs.Control.{interrupt}
@@ -25,7 +20,7 @@ use Rattle.runs.proofs.Buffer.{buffer-put}
 use Rattle.runs.proofs.Lists.{claim}
 use Rattle.commands.specs.declared.Command.{Command}
 use Rattle.commands.specs.declared.Command.the-variants as Command
-use Rattle.commands.specs.Decode.{decoded, image, size, is-bad}
+use Rattle.commands.specs.Decode.{decoded, image}
 use Rattle.bench.specs.Text.{view-text, report-text, image-text}
 use Rattle.bench.specs.Line as L
 use Rattle.bench.specs.Run.{Bench, bench, turn, iter, whole}

@@ -1,15 +1,11 @@
 use Rattle.bench.specs.Block.{least}
 use Rattle.bench.proofs.least.Statement.{statement}
 use Rattle.bench.proofs.least.Tie as tie
-use Rattle.bench.proofs.least.Reads as reads
-use Rattle.bench.proofs.least.Lts as lts
 
--- src/lib.rt:33:9
 returns : tie.Need-returns
 unfolding least
 returns c = rw (c .if1 .taken)
 
--- src/lib.rt:29:1
 returns-2 : tie.Need-returns-2
 unfolding least
 returns-2 c = rw (c .if1 .left)

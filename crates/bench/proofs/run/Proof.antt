@@ -1,21 +1,13 @@
 use borrow.Author.Needs.{needs}
 use native.Mathlib.Omega.{arith}
-use mathlib.Core.Path.{_≡_, refl, sym, ap, _∙_}
-use mathlib.Core.Bool.{Bool, true, false}
-use Prim.Native.Nat.{ℕ, _+_, _-_, _≤_, _<_}
+use mathlib.Core.Path.{refl, sym, _∙_}
+use mathlib.Core.Bool.{false}
+use Prim.Native.Nat.{_+_, _-_, _≤_, _<_}
 use lib.ListN.{length, drop, length-drop}
 use Rattle.bench.specs.Run.{advance}
 use Rattle.bench.specs.Block.{least, least-some, Upto, begun, went, finished, pace-short, pace-full, pace-stopped, stopped-turn}
 use Rattle.bench.proofs.run.Statement.{statement}
 use Rattle.bench.proofs.run.Tie as tie
-use Rattle.bench.proofs.run.Reads as reads
-use Rattle.bench.proofs.run.Lts as lts
-use Rattle.bench.proofs.least.Reads as least-reads
-use Rattle.bench.proofs.lines.write_line.Reads as write-line-reads
-use Rattle.bench.proofs.steps.serve.Reads as serve-reads
-use Rattle.commands.proofs.decode.Reads as decode-reads
-use Rattle.commands.proofs.is_bad.Reads as is-bad-reads
-use Rattle.commands.proofs.size.Reads as size-reads
 
 abbrev Inv-loop : tie.InvT-loop
 Inv-loop input over trace out₀ enough at₀ p₀ n₀ out at p n = (at ≤ length input) × (p ≤ 65536) × Upto trace over n₀ input out₀ out n at p false
@@ -23,55 +15,43 @@ Inv-loop input over trace out₀ enough at₀ p₀ n₀ out at p n = (at ≤ len
 abbrev μ-loop : tie.MeasureT-loop
 μ-loop input over trace out₀ enough at₀ p₀ n₀ out at p n = length input - at
 
--- src/lib.rt:44:9
 least-requires : tie.Need-least-requires Inv-loop μ-loop
 least-requires c κs = search needs
 
--- src/lib.rt:48:5
 loop-holds : tie.Need-loop-holds Inv-loop μ-loop
 loop-holds c = (omega arith, omega arith, begun)
 
--- src/lib.rt:48:21
 sub-loop : tie.Need-sub-loop Inv-loop μ-loop
 sub-loop c = search needs
 
--- src/lib.rt:50:13
 returns : tie.Need-returns Inv-loop μ-loop
 returns c = let b = c .before .before .loop .inv .2 in
     let done = finished b (c .before .before .loop .inv .0) (pace-full _ _ _ (omega (arith, b .bytes .next))) in
     (done .0, (done .1, (done .2, (omega arith, omega arith))))
 
--- src/lib.rt:57:17
 shared-slice-read-b : tie.Need-shared-slice-read-b Inv-loop μ-loop
 shared-slice-read-b c = let h : 0 < c .before .before .before .before .least .result = rw (c .before .before .before .before .least .ensures) (least-some _) in omega arith
 
--- src/lib.rt:58:13
 decode-requires : tie.Need-decode-requires Inv-loop μ-loop
 decode-requires c κs = search needs
 
--- src/lib.rt:59:13
 serve-requires : tie.Need-serve-requires Inv-loop μ-loop
 serve-requires c κs = c .decode .ensures
 
--- src/lib.rt:60:9
 write-line-requires : tie.Need-write-line-requires Inv-loop μ-loop
 write-line-requires c κs = search needs
 
--- src/lib.rt:61:15
 size-requires : tie.Need-size-requires Inv-loop μ-loop
 size-requires c κs = search needs
 
--- src/lib.rt:61:9
 add-at : tie.Need-add-at Inv-loop μ-loop
 add-at c = let t : least (c .before .before .before .before .before .before .before .before .before .before .before .args .over) ≤ length (c .before .before .before .before .before .before .before .before .before .before .before .args .input .now) - c .before .before .before .before .before .before .before .before .loop .at = rw (sym (c .before .before .before .before .before .before .before .before .before .least .ensures)) (c .before .before .before .before .before .before .before .loop-test .taken) in
     let adv : (c .before .before .before .before .before .before .before .before .loop .at + c .size .result ≤ length (c .before .before .before .before .before .before .before .before .before .before .before .args .input .now)) × (1 ≤ c .size .result) = advance (c .before .before .before .before .before .before .before .before .before .before .before .args .input .now) (c .before .before .before .before .before .before .before .before .loop .at) (least-some (c .before .before .before .before .before .before .before .before .before .before .before .args .over)) t (c .before .before .before .before .decode .ensures) (c .size .ensures) in
     omega (arith, adv .0, c .before .before .before .before .before .before .before .before .before .before .before .good .0)
 
--- src/lib.rt:64:12
 is-bad-requires : tie.Need-is-bad-requires Inv-loop μ-loop
 is-bad-requires c κs = search needs
 
--- src/lib.rt:65:13
 returns-2 : tie.Need-returns-2 Inv-loop μ-loop
 returns-2 c = let t : least (c .before .before .before .before .before .before .before .before .before .before .before .before .before .before .args .over) ≤ length (c .before .before .before .before .before .before .before .before .before .before .before .before .before .before .args .input .now) - c .before .before .before .before .before .before .before .before .before .before .before .loop .at = rw (sym (c .before .before .before .before .before .before .before .before .before .before .before .before .least .ensures)) (c .before .before .before .before .before .before .before .before .before .before .loop-test .taken) in
     let adv : (c .before .before .before .before .before .before .before .before .before .before .before .loop .at + c .before .before .before .size .result ≤ length (c .before .before .before .before .before .before .before .before .before .before .before .before .before .before .args .input .now)) × (1 ≤ c .before .before .before .size .result) = advance (c .before .before .before .before .before .before .before .before .before .before .before .before .before .before .args .input .now) (c .before .before .before .before .before .before .before .before .before .before .before .loop .at) (least-some (c .before .before .before .before .before .before .before .before .before .before .before .before .before .before .args .over)) t (c .before .before .before .before .before .before .before .decode .ensures) (c .before .before .before .size .ensures) in
@@ -79,19 +59,16 @@ returns-2 c = let t : least (c .before .before .before .before .before .before .
     let done = finished b (adv .0) (pace-stopped _ _ _ (stopped-turn _ _ refl)) in
     (done .0, (done .1, (done .2, (adv .0, omega arith))))
 
--- src/lib.rt:48:5
 loop-less : tie.Need-loop-less Inv-loop μ-loop
 loop-less c = let t : least (c .before .before .before .before .before .before .before .before .before .before .before .before .before .before .args .over) ≤ length (c .before .before .before .before .before .before .before .before .before .before .before .before .before .before .args .input .now) - c .before .before .before .before .before .before .before .before .before .before .before .loop .at = rw (sym (c .before .before .before .before .before .before .before .before .before .before .before .before .least .ensures)) (c .before .before .before .before .before .before .before .before .before .before .loop-test .taken) in
     let adv : (c .before .before .before .before .before .before .before .before .before .before .before .loop .at + c .before .before .before .size .result ≤ length (c .before .before .before .before .before .before .before .before .before .before .before .before .before .before .args .input .now)) × (1 ≤ c .before .before .before .size .result) = advance (c .before .before .before .before .before .before .before .before .before .before .before .before .before .before .args .input .now) (c .before .before .before .before .before .before .before .before .before .before .before .loop .at) (least-some (c .before .before .before .before .before .before .before .before .before .before .before .before .before .before .args .over)) t (c .before .before .before .before .before .before .before .decode .ensures) (c .before .before .before .size .ensures) in
     omega (arith, adv .0, adv .1)
 
--- src/lib.rt:48:5
 loop-again : tie.Need-loop-again Inv-loop μ-loop
 loop-again c = let t : least (c .before .before .before .before .before .before .before .before .before .before .before .before .before .before .args .over) ≤ length (c .before .before .before .before .before .before .before .before .before .before .before .before .before .before .args .input .now) - c .before .before .before .before .before .before .before .before .before .before .before .loop .at = rw (sym (c .before .before .before .before .before .before .before .before .before .before .before .before .least .ensures)) (c .before .before .before .before .before .before .before .before .before .before .loop-test .taken) in
     let adv : (c .before .before .before .before .before .before .before .before .before .before .before .loop .at + c .before .before .before .size .result ≤ length (c .before .before .before .before .before .before .before .before .before .before .before .before .before .before .args .input .now)) × (1 ≤ c .before .before .before .size .result) = advance (c .before .before .before .before .before .before .before .before .before .before .before .before .before .before .args .input .now) (c .before .before .before .before .before .before .before .before .before .before .before .loop .at) (least-some (c .before .before .before .before .before .before .before .before .before .before .before .before .before .before .args .over)) t (c .before .before .before .before .before .before .before .decode .ensures) (c .before .before .before .size .ensures) in
     (adv .0, omega arith, went (c .before .before .before .before .before .before .before .before .before .before .before .loop .inv .2) t (c .before .before .before .before .before .before .before .before .before .if1 .left) (c .before .before .before .before .before .before .before .decode .ensures) (c .before .before .before .before .before .before .serve .ensures) (c .before .before .before .size .ensures) (sym (c .if2 .left) ∙ c .before .is-bad .ensures) (c .before .before .before .before .write-line .ensures .0))
 
--- src/lib.rt:39:1
 returns-3 : tie.Need-returns-3 Inv-loop μ-loop
 returns-3 c = let b = c .before .loop .inv .2 in
     let short : length (drop (c .before .loop .at) (c .before .before .before .before .args .input .now)) < least (c .before .before .before .before .args .over) = rw (length-drop, sym (c .before .before .least .ensures)) (c .loop-test .left) in

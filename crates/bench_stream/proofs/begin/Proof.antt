@@ -1,26 +1,20 @@
 use Rattle.bench_stream.specs.declared.Turn.{Turn}
-use mathlib.Core.Path.{_≡_, ap}
+use mathlib.Core.Path.{ap}
 use mathlib.Core.Bool.{false}
 use Rattle.bma150.specs.declared.types.Bma150.{Bma150}
 use borrow.Author.Needs.{needs}
 use Rattle.bench_stream.proofs.begin.Statement.{statement}
 use Rattle.bench_stream.proofs.begin.Tie as tie
-use Rattle.bench_stream.proofs.begin.Reads as reads
-use Rattle.bench_stream.proofs.begin.Lts as lts
-use Rattle.bma150.proofs.types.Bma150.start.Reads as start-reads
 
 abbrev turn : Bma150 → Turn
 turn s = record { at = 0; have = 0; over = false; stop = false; sensor = s }
 
--- src/lib.rt:148:39
 slice-aggregate-start : tie.Need-slice-aggregate-start
 slice-aggregate-start c = search needs
 
--- src/lib.rt:148:9
 start-requires : tie.Need-start-requires
 start-requires c κs = search needs
 
--- src/lib.rt:124:1
 returns : tie.Need-returns
 returns c = ap (λ (s : Bma150). turn s) (c .before .start .ensures .1)
 

@@ -1,53 +1,36 @@
 use lib.Seq.{take-at, length-take-le}
-use mathlib.Core.Path.{_≡_}
 use lib.ListN.{take}
-use native.Mathlib.Omega.{arith}
-use lib.ListN.{length, length-drop}
 use borrow.Author.Needs.{needs}
 use Rattle.bench_stream.proofs.fill.Statement.{statement}
 use Rattle.bench_stream.proofs.fill.Tie as tie
-use Rattle.bench_stream.proofs.fill.Reads as reads
-use Rattle.bench_stream.proofs.fill.Lts as lts
-use Rattle.io.proofs.count.Reads as count-reads
-use Rattle.libc.proofs.read.Reads as read-reads
 
--- src/lib.rt:49:29
 sub-read : tie.Need-sub-read
 sub-read c = search needs
 
--- src/lib.rt:49:29
 part-read-start : tie.Need-part-read-start
 part-read-start c = search needs
 
--- src/lib.rt:49:29
 part-read-end : tie.Need-part-read-end
 part-read-end c = search needs
 
--- src/lib.rt:49:9
 read-requires : tie.Need-read-requires
 read-requires c κs = search needs
 
--- src/lib.rt:50:20
 sub-count : tie.Need-sub-count
 sub-count c = search needs
 
--- src/lib.rt:50:20
 part-count-start : tie.Need-part-count-start
 part-count-start c = search needs
 
--- src/lib.rt:50:20
 part-count-end : tie.Need-part-count-end
 part-count-end c = search needs
 
--- src/lib.rt:50:5
 count-requires : tie.Need-count-requires
 count-requires c κs = search needs
 
--- src/lib.rt:44:1
 same-length : tie.Need-same-length
 same-length c = search needs
 
--- src/lib.rt:44:1
 returns : tie.Need-returns
 returns c = (search needs, take-at (take (c .before .before .before .before .before .before .before .before .args .kept) (c .before .before .before .before .before .before .before .before .args .buf .now)) _ (c .before .before .before .before .before .before .before .before .args .kept) (length-take-le (c .before .before .before .before .before .before .before .before .args .kept) (c .before .before .before .before .before .before .before .before .args .buf .now) (c .before .before .before .before .before .before .before .before .pre)))
 

@@ -3,19 +3,13 @@ use lib.ListN.{length-take}
 use borrow.Author.Needs.{needs}
 use Rattle.bench_stream.proofs.flush.Statement.{statement}
 use Rattle.bench_stream.proofs.flush.Tie as tie
-use Rattle.bench_stream.proofs.flush.Reads as reads
-use Rattle.bench_stream.proofs.flush.Lts as lts
-use Rattle.io.proofs.write_all.Reads as write-all-reads
 
--- src/main.rt:23:22
 slice-aggregate-write-all : tie.Need-slice-aggregate-write-all
 slice-aggregate-write-all c = simp length-take (omega arith)
 
--- src/main.rt:23:5
 write-all-requires : tie.Need-write-all-requires
 write-all-requires c κs = search needs
 
--- src/main.rt:20:1
 returns : tie.Need-returns
 returns c = search needs
 

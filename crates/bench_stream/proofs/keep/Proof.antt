@@ -1,13 +1,11 @@
 use borrow.Author.Needs.{needs}
 use native.Mathlib.Omega.{arith}
-use mathlib.Core.Path.{_≡_, sym, ap, _∙_}
-use Prim.Native.Nat.{ℕ, _+_, _-_, _≤_, _<_}
-use lib.ListN.{length, take, drop, getD}
+use mathlib.Core.Path.{_≡_}
+use Prim.Native.Nat.{_+_, _-_, _≤_, _<_}
+use lib.ListN.{length, take, drop}
 use Rattle.bench.specs.Put.{Put, none, says, moved, stored, kept-length}
 use Rattle.bench_stream.proofs.keep.Statement.{statement}
 use Rattle.bench_stream.proofs.keep.Tie as tie
-use Rattle.bench_stream.proofs.keep.Reads as reads
-use Rattle.bench_stream.proofs.keep.Lts as lts
 
 abbrev Inv-loop : tie.InvT-loop
 Inv-loop buf₀ at have p₀ buf p = (p ≤ have - at) × Put buf₀ 0 (take p (drop at buf₀)) buf p
@@ -15,44 +13,34 @@ Inv-loop buf₀ at have p₀ buf p = (p ≤ have - at) × Put buf₀ 0 (take p (
 abbrev μ-loop : tie.MeasureT-loop
 μ-loop buf₀ at have p₀ buf p = have - at - p
 
--- src/lib.rt:67:5
 loop-holds : tie.Need-loop-holds Inv-loop μ-loop
 loop-holds c = (omega arith, none)
 
--- src/lib.rt:67:15
 sub-loop : tie.Need-sub-loop Inv-loop μ-loop
 sub-loop c = search needs
 
--- src/lib.rt:68:22
 add-buf : tie.Need-add-buf Inv-loop μ-loop
 add-buf c = search needs
 
--- src/lib.rt:68:18
 slice-read-buf : tie.Need-slice-read-buf Inv-loop μ-loop
 slice-read-buf c = omega (arith, kept-length (c .before .before .loop .inv .1))
 
--- src/lib.rt:68:9
 slice-write-buf : tie.Need-slice-write-buf Inv-loop μ-loop
 slice-write-buf c = omega (arith, kept-length (c .before .before .loop .inv .1))
 
--- src/lib.rt:69:9
 add-p : tie.Need-add-p Inv-loop μ-loop
 add-p c = search needs
 
--- src/lib.rt:67:5
 loop-less : tie.Need-loop-less Inv-loop μ-loop
 loop-less c = search needs
 
--- src/lib.rt:67:5
 loop-again : tie.Need-loop-again Inv-loop μ-loop
 loop-again c = let h : c .before .before .before .args .at + c .before .before .loop .p < length (c .before .before .before .args .buf .now) = omega arith in
     (omega arith, moved (c .before .before .before .args .at) h (c .before .before .loop .inv .1) stored)
 
--- src/lib.rt:61:1
 same-length : tie.Need-same-length Inv-loop μ-loop
 same-length c = kept-length (c .before .loop .inv .1)
 
--- src/lib.rt:61:1
 returns : tie.Need-returns Inv-loop μ-loop
 returns c = let e : c .before .loop .p ≡ c .before .before .args .have - c .before .before .args .at = omega arith in
     (says (c .before .loop .inv .1) (rw e), omega arith)

@@ -1,28 +1,17 @@
-use native.Mathlib.Omega.{arith}
-use Prim.Native.Nat.{_≤_}
-use lib.ListN.{length}
 use Rattle.bench_stream.specs.Loop.{filled}
 use borrow.Author.Needs.{needs}
 use Rattle.bench_stream.proofs.more.Statement.{statement}
 use Rattle.bench_stream.proofs.more.Tie as tie
-use Rattle.bench_stream.proofs.more.Reads as reads
-use Rattle.bench_stream.proofs.more.Lts as lts
-use Rattle.bench_stream.proofs.fill.Reads as fill-reads
-use Rattle.bench_stream.proofs.keep.Reads as keep-reads
 
--- src/lib.rt:59:9
 keep-requires : tie.Need-keep-requires
 keep-requires c κs = search needs
 
--- src/lib.rt:60:9
 fill-requires : tie.Need-fill-requires
 fill-requires c κs = search needs
 
--- src/lib.rt:64:15
 add-t13 : tie.Need-add-t13
 add-t13 c = search needs
 
--- src/lib.rt:52:1
 returns : tie.Need-returns
 returns c = ((search needs, search needs), filled (c .before .before .before .before .before .args .trace) (c .before .before .before .before .before .args .t) (c .before .before .before .before .before .args .buf .now) _ _ (c .before .before .before .keep .result) (c .before .fill .result) _ (c .before .before .before .before .before .pre .2) (c .before .before .before .before .before .pre .3) (c .before .before .before .keep .ensures .0) (c .before .fill .ensures .1))
 

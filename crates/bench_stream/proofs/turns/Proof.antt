@@ -1,14 +1,8 @@
-use native.Mathlib.Omega.{arith}
 use borrow.Author.Needs.{needs}
 use Prim.Native.Nat.{_≤_}
 use Rattle.bench_stream.specs.Loop.{History, between-of, from-first, first-bounds}
 use Rattle.bench_stream.proofs.turns.Statement.{statement}
 use Rattle.bench_stream.proofs.turns.Tie as tie
-use Rattle.bench_stream.proofs.turns.Reads as reads
-use Rattle.bench_stream.proofs.turns.Lts as lts
-use Rattle.bench_stream.proofs.begin.Reads as begin-reads
-use Rattle.bench_stream.proofs.goes_on.Reads as goes-on-reads
-use Rattle.bench_stream.proofs.step.Reads as step-reads
 
 abbrev Inv-loop : tie.InvT-loop
 Inv-loop buf₀ out₀ trace n₀ t₀ buf out n t = (t .at ≤ t .have) × (t .have ≤ 65536) × History trace (between-of t buf)
@@ -16,40 +10,31 @@ Inv-loop buf₀ out₀ trace n₀ t₀ buf out n t = (t .at ≤ t .have) × (t .
 abbrev μ-loop : tie.MeasureT-loop
 μ-loop buf₀ out₀ trace n₀ t₀ buf out n t = n
 
--- src/lib.rt:164:9
 begin-requires : tie.Need-begin-requires Inv-loop μ-loop
 begin-requires c κs = search needs
 
--- src/lib.rt:165:5
 loop-holds : tie.Need-loop-holds Inv-loop μ-loop
 loop-holds c = let b = first-bounds (c .begin .result) (c .begin .ensures) in
     (b .0, b .1, from-first _ _ _ (c .begin .ensures))
 
--- src/lib.rt:165:20
 goes-on-requires : tie.Need-goes-on-requires Inv-loop μ-loop
 goes-on-requires c κs = search needs
 
--- src/lib.rt:166:9
 step-requires : tie.Need-step-requires Inv-loop μ-loop
 step-requires c κs = search needs
 
--- src/lib.rt:167:9
 sub-n : tie.Need-sub-n Inv-loop μ-loop
 sub-n c = search needs
 
--- src/lib.rt:165:5
 loop-less : tie.Need-loop-less Inv-loop μ-loop
 loop-less c = search needs
 
--- src/lib.rt:165:5
 loop-again : tie.Need-loop-again Inv-loop μ-loop
 loop-again c = (c .step .ensures .0 .0, c .step .ensures .0 .1, c .step .ensures .1 (c .before .before .before .before .before .before .loop .inv .2))
 
--- src/lib.rt:160:1
 returns : tie.Need-returns Inv-loop μ-loop
 returns c = c .before .before .before .loop .inv .2
 
--- src/lib.rt:160:1
 returns-2 : tie.Need-returns-2 Inv-loop μ-loop
 returns-2 c = c .before .loop .inv .2
 

@@ -1,4 +1,3 @@
-use mathlib.Core.Path.{_≡_, refl, sym, ap, _∙_}
 use native.Mathlib.Omega.{arith}
 use Prim.Native.Nat.{_-_, _<_, _≤_}
 use borrow.Author.Tests.{lt-ltb, le-ltb}
@@ -8,25 +7,18 @@ use Rattle.commands.specs.Laws.{head-drop}
 use borrow.Author.Needs.{needs}
 use Rattle.commands.proofs.decode.Statement.{statement}
 use Rattle.commands.proofs.decode.Tie as tie
-use Rattle.commands.proofs.decode.Reads as reads
-use Rattle.commands.proofs.decode.Lts as lts
-use Rattle.commands.proofs.named.Reads as named-reads
 
--- src/lib.rt:279:22
 shared-slice-read-named : tie.Need-shared-slice-read-named
 shared-slice-read-named c = search needs
 
--- src/lib.rt:279:9
 named-requires : tie.Need-named-requires
 named-requires c κs = search needs
 
--- src/lib.rt:279:9
 returns : tie.Need-returns
 unfolding decoded
 returns c = let h : 0 < length (c .before .before .before .before .args .input .now) - c .before .before .before .before .args .at = omega arith in
     rw (length-drop, lt-ltb 0 _ h, head-drop) (c .named .ensures)
 
--- src/lib.rt:275:1
 returns-2 : tie.Need-returns-2
 unfolding decoded
 returns-2 c = let h : length (c .before .before .args .input .now) - c .before .before .args .at ≤ 0 = omega arith in

@@ -1,31 +1,22 @@
-use mathlib.Core.Path.{_≡_, refl, sym, ap, _∙_}
 use Rattle.commands.specs.Decode.{falling}
 use Rattle.commands.specs.Laws.{there, missing, moment-drop}
 use borrow.Author.Needs.{needs}
 use Rattle.commands.proofs.falling.Statement.{statement}
 use Rattle.commands.proofs.falling.Tie as tie
-use Rattle.commands.proofs.falling.Reads as reads
-use Rattle.commands.proofs.falling.Lts as lts
-use Rattle.commands.proofs.moment.Reads as moment-reads
 
--- src/lib.rt:182:8
 sub-if1 : tie.Need-sub-if1
 sub-if1 c = search needs
 
--- src/lib.rt:183:9
 returns : tie.Need-returns
 unfolding falling
 returns c = rw (missing 13 _ _ _ (c .if1 .taken))
 
--- src/lib.rt:185:27
 add-moment : tie.Need-add-moment
 add-moment c = search needs
 
--- src/lib.rt:185:9
 moment-requires : tie.Need-moment-requires
 moment-requires c κs = search needs
 
--- src/lib.rt:178:1
 returns-2 : tie.Need-returns-2
 unfolding falling
 returns-2 c = rw (there 13 _ _ _ (c .before .if1 .left), moment-drop, c .moment .ensures)

@@ -1,68 +1,47 @@
-use mathlib.Core.Path.{_≡_, refl, sym, ap, _∙_}
 use borrow.Author.Tests.{eq-eqb, ne-eqb}
 use Rattle.commands.specs.Decode.{named}
 use borrow.Author.Needs.{needs}
 use Rattle.commands.proofs.named.Statement.{statement}
 use Rattle.commands.proofs.named.Tie as tie
-use Rattle.commands.proofs.named.Reads as reads
-use Rattle.commands.proofs.named.Lts as lts
-use Rattle.commands.proofs.accelerations.Reads as accelerations-reads
-use Rattle.commands.proofs.due.Reads as due-reads
-use Rattle.commands.proofs.serial.Reads as serial-reads
-use Rattle.commands.proofs.start.Reads as start-reads
-use Rattle.commands.proofs.supply.Reads as supply-reads
-use Rattle.commands.proofs.temperature.Reads as temperature-reads
 
--- src/lib.rt:257:9
 start-requires : tie.Need-start-requires
 start-requires c κs = search needs
 
--- src/lib.rt:257:9
 returns : tie.Need-returns
 unfolding named
 returns c = simp (eq-eqb _ _ (c .before .if1 .taken)) (c .start .ensures)
 
--- src/lib.rt:260:9
 accelerations-requires : tie.Need-accelerations-requires
 accelerations-requires c κs = search needs
 
--- src/lib.rt:260:9
 returns-2 : tie.Need-returns-2
 unfolding named
 returns-2 c = simp (ne-eqb _ _ (c .before .before .if1 .left), eq-eqb _ _ (c .before .if2 .taken)) (c .accelerations .ensures)
 
--- src/lib.rt:263:9
 temperature-requires : tie.Need-temperature-requires
 temperature-requires c κs = search needs
 
--- src/lib.rt:263:9
 returns-3 : tie.Need-returns-3
 unfolding named
 returns-3 c = simp (ne-eqb _ _ (c .before .before .before .if1 .left), ne-eqb _ _ (c .before .before .if2 .left), eq-eqb _ _ (c .before .if3 .taken)) (c .temperature .ensures)
 
--- src/lib.rt:266:9
 supply-requires : tie.Need-supply-requires
 supply-requires c κs = search needs
 
--- src/lib.rt:266:9
 returns-4 : tie.Need-returns-4
 unfolding named
 returns-4 c = simp (ne-eqb _ _ (c .before .before .before .before .if1 .left), ne-eqb _ _ (c .before .before .before .if2 .left), ne-eqb _ _ (c .before .before .if3 .left), eq-eqb _ _ (c .before .if4 .taken)) (c .supply .ensures)
 
--- src/lib.rt:269:9
 due-requires : tie.Need-due-requires
 due-requires c κs = search needs
 
--- src/lib.rt:269:9
 returns-5 : tie.Need-returns-5
 unfolding named
 returns-5 c = simp (ne-eqb _ _ (c .before .before .before .before .before .if1 .left), ne-eqb _ _ (c .before .before .before .before .if2 .left), ne-eqb _ _ (c .before .before .before .if3 .left), ne-eqb _ _ (c .before .before .if4 .left), eq-eqb _ _ (c .before .if5 .taken)) (c .due .ensures)
 
--- src/lib.rt:271:5
 serial-requires : tie.Need-serial-requires
 serial-requires c κs = search needs
 
--- src/lib.rt:252:1
 returns-6 : tie.Need-returns-6
 unfolding named
 returns-6 c = simp (ne-eqb _ _ (c .before .before .before .before .before .if1 .left), ne-eqb _ _ (c .before .before .before .before .if2 .left), ne-eqb _ _ (c .before .before .before .if3 .left), ne-eqb _ _ (c .before .before .if4 .left), ne-eqb _ _ (c .before .if5 .left)) (c .serial .ensures)

@@ -1,4 +1,3 @@
-use mathlib.Core.Path.{_≡_, refl, sym, ap, _∙_}
 use borrow.Author.Tests.{lt-ltb, le-ltb}
 use lib.Seq.{getD-drop}
 use Rattle.commands.specs.Decode.{pins}
@@ -6,50 +5,36 @@ use Rattle.commands.specs.Laws.{there, missing, moment-drop}
 use borrow.Author.Needs.{needs}
 use Rattle.commands.proofs.pins.Statement.{statement}
 use Rattle.commands.proofs.pins.Tie as tie
-use Rattle.commands.proofs.pins.Reads as reads
-use Rattle.commands.proofs.pins.Lts as lts
-use Rattle.commands.proofs.levels.Reads as levels-reads
-use Rattle.commands.proofs.moment.Reads as moment-reads
 
--- src/lib.rt:193:8
 sub-if1 : tie.Need-sub-if1
 sub-if1 c = search needs
 
--- src/lib.rt:194:9
 returns : tie.Need-returns
 unfolding pins
 returns c = rw (missing 14 _ _ _ (c .if1 .taken))
 
--- src/lib.rt:196:27
 add-moment : tie.Need-add-moment
 add-moment c = search needs
 
--- src/lib.rt:196:9
 moment-requires : tie.Need-moment-requires
 moment-requires c κs = search needs
 
--- src/lib.rt:197:19
 add-b : tie.Need-add-b
 add-b c = search needs
 
--- src/lib.rt:197:13
 shared-slice-read-b : tie.Need-shared-slice-read-b
 shared-slice-read-b c = search needs
 
--- src/lib.rt:199:9
 returns-2 : tie.Need-returns-2
 unfolding pins
 returns-2 c = rw (there 14 _ _ _ (c .before .before .before .if1 .left), getD-drop, lt-ltb _ _ (c .if2 .taken))
 
--- src/lib.rt:201:22
 levels-requires : tie.Need-levels-requires
 levels-requires c κs = search needs
 
--- src/lib.rt:201:39
 levels-requires-2 : tie.Need-levels-requires-2
 levels-requires-2 c κs = search needs
 
--- src/lib.rt:189:1
 returns-3 : tie.Need-returns-3
 unfolding pins
 returns-3 c = rw (there 14 _ _ _ (c .before .before .before .before .before .if1 .left), getD-drop, le-ltb _ _ (c .before .before .if2 .left), moment-drop, c .before .before .before .before .moment .ensures, c .before .levels .ensures, c .levels2 .ensures)

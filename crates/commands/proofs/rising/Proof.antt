@@ -1,4 +1,3 @@
-use mathlib.Core.Path.{_≡_, refl, sym, ap, _∙_}
 use borrow.Author.Tests.{eq-eqb, ne-eqb}
 use lib.Seq.{getD-drop}
 use Rattle.commands.specs.Decode.{rising}
@@ -6,46 +5,34 @@ use Rattle.commands.specs.Laws.{there, missing, moment-drop}
 use borrow.Author.Needs.{needs}
 use Rattle.commands.proofs.rising.Statement.{statement}
 use Rattle.commands.proofs.rising.Tie as tie
-use Rattle.commands.proofs.rising.Reads as reads
-use Rattle.commands.proofs.rising.Lts as lts
-use Rattle.commands.proofs.moment.Reads as moment-reads
 
--- src/lib.rt:164:8
 sub-if1 : tie.Need-sub-if1
 sub-if1 c = search needs
 
--- src/lib.rt:165:9
 returns : tie.Need-returns
 unfolding rising
 returns c = rw (missing 14 _ _ _ (c .if1 .taken))
 
--- src/lib.rt:167:27
 add-moment : tie.Need-add-moment
 add-moment c = search needs
 
--- src/lib.rt:167:9
 moment-requires : tie.Need-moment-requires
 moment-requires c κs = search needs
 
--- src/lib.rt:168:19
 add-b : tie.Need-add-b
 add-b c = search needs
 
--- src/lib.rt:168:13
 shared-slice-read-b : tie.Need-shared-slice-read-b
 shared-slice-read-b c = search needs
 
--- src/lib.rt:170:9
 returns-2 : tie.Need-returns-2
 unfolding rising
 returns-2 c = rw (there 14 _ _ _ (c .before .before .before .if1 .left), getD-drop, eq-eqb _ _ (c .if2 .taken), moment-drop, c .before .before .moment .ensures)
 
--- src/lib.rt:173:9
 returns-3 : tie.Need-returns-3
 unfolding rising
 returns-3 c = rw (there 14 _ _ _ (c .before .before .before .before .if1 .left), getD-drop, ne-eqb _ _ (c .before .if2 .left), eq-eqb _ _ (c .if3 .taken), moment-drop, c .before .before .before .moment .ensures)
 
--- src/lib.rt:160:1
 returns-4 : tie.Need-returns-4
 unfolding rising
 returns-4 c = rw (there 14 _ _ _ (c .before .before .before .before .if1 .left), getD-drop, ne-eqb _ _ (c .before .if2 .left), ne-eqb _ _ (c .if3 .left))

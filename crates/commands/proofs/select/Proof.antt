@@ -1,4 +1,3 @@
-use mathlib.Core.Path.{_≡_, refl, sym, ap, _∙_}
 use borrow.Author.Tests.{eq-eqb, ne-eqb}
 use lib.Seq.{getD-drop}
 use Rattle.commands.specs.Decode.{select}
@@ -6,37 +5,28 @@ use Rattle.commands.specs.Laws.{there, missing}
 use borrow.Author.Needs.{needs}
 use Rattle.commands.proofs.select.Statement.{statement}
 use Rattle.commands.proofs.select.Tie as tie
-use Rattle.commands.proofs.select.Reads as reads
-use Rattle.commands.proofs.select.Lts as lts
 
--- src/lib.rt:147:8
 sub-if1 : tie.Need-sub-if1
 sub-if1 c = search needs
 
--- src/lib.rt:148:9
 returns : tie.Need-returns
 unfolding select
 returns c = rw (missing 2 _ _ _ (c .if1 .taken))
 
--- src/lib.rt:150:19
 add-b : tie.Need-add-b
 add-b c = search needs
 
--- src/lib.rt:150:13
 shared-slice-read-b : tie.Need-shared-slice-read-b
 shared-slice-read-b c = search needs
 
--- src/lib.rt:152:9
 returns-2 : tie.Need-returns-2
 unfolding select
 returns-2 c = rw (there 2 _ _ _ (c .before .before .if1 .left), getD-drop, eq-eqb _ _ (c .if2 .taken))
 
--- src/lib.rt:155:9
 returns-3 : tie.Need-returns-3
 unfolding select
 returns-3 c = rw (there 2 _ _ _ (c .before .before .before .if1 .left), getD-drop, ne-eqb _ _ (c .before .if2 .left), eq-eqb _ _ (c .if3 .taken))
 
--- src/lib.rt:143:1
 returns-4 : tie.Need-returns-4
 unfolding select
 returns-4 c = rw (there 2 _ _ _ (c .before .before .before .if1 .left), getD-drop, ne-eqb _ _ (c .before .if2 .left), ne-eqb _ _ (c .if3 .left))

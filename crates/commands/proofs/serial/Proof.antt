@@ -1,73 +1,51 @@
-use mathlib.Core.Path.{_≡_, refl, sym, ap, _∙_}
 use borrow.Author.Tests.{eq-eqb, ne-eqb}
 use Rattle.commands.specs.Decode.{serial}
 use borrow.Author.Needs.{needs}
 use Rattle.commands.proofs.serial.Statement.{statement}
 use Rattle.commands.proofs.serial.Tie as tie
-use Rattle.commands.proofs.serial.Reads as reads
-use Rattle.commands.proofs.serial.Lts as lts
-use Rattle.commands.proofs.falling.Reads as falling-reads
-use Rattle.commands.proofs.pins.Reads as pins-reads
-use Rattle.commands.proofs.rising.Reads as rising-reads
-use Rattle.commands.proofs.select.Reads as select-reads
-use Rattle.commands.proofs.stored_image.Reads as stored-image-reads
-use Rattle.commands.proofs.view.Reads as view-reads
 
--- src/lib.rt:231:9
 select-requires : tie.Need-select-requires
 select-requires c κs = search needs
 
--- src/lib.rt:231:9
 returns : tie.Need-returns
 unfolding serial
 returns c = simp (eq-eqb _ _ (c .before .if1 .taken)) (c .select .ensures)
 
--- src/lib.rt:234:9
 rising-requires : tie.Need-rising-requires
 rising-requires c κs = search needs
 
--- src/lib.rt:234:9
 returns-2 : tie.Need-returns-2
 unfolding serial
 returns-2 c = simp (ne-eqb _ _ (c .before .before .if1 .left), eq-eqb _ _ (c .before .if2 .taken)) (c .rising .ensures)
 
--- src/lib.rt:237:9
 falling-requires : tie.Need-falling-requires
 falling-requires c κs = search needs
 
--- src/lib.rt:237:9
 returns-3 : tie.Need-returns-3
 unfolding serial
 returns-3 c = simp (ne-eqb _ _ (c .before .before .before .if1 .left), ne-eqb _ _ (c .before .before .if2 .left), eq-eqb _ _ (c .before .if3 .taken)) (c .falling .ensures)
 
--- src/lib.rt:240:9
 pins-requires : tie.Need-pins-requires
 pins-requires c κs = search needs
 
--- src/lib.rt:240:9
 returns-4 : tie.Need-returns-4
 unfolding serial
 returns-4 c = simp (ne-eqb _ _ (c .before .before .before .before .if1 .left), ne-eqb _ _ (c .before .before .before .if2 .left), ne-eqb _ _ (c .before .before .if3 .left), eq-eqb _ _ (c .before .if4 .taken)) (c .pins .ensures)
 
--- src/lib.rt:243:9
 stored-image-requires : tie.Need-stored-image-requires
 stored-image-requires c κs = search needs
 
--- src/lib.rt:243:9
 returns-5 : tie.Need-returns-5
 unfolding serial
 returns-5 c = simp (ne-eqb _ _ (c .before .before .before .before .before .if1 .left), ne-eqb _ _ (c .before .before .before .before .if2 .left), ne-eqb _ _ (c .before .before .before .if3 .left), ne-eqb _ _ (c .before .before .if4 .left), eq-eqb _ _ (c .before .if5 .taken)) (c .stored-image .ensures)
 
--- src/lib.rt:246:9
 view-requires : tie.Need-view-requires
 view-requires c κs = search needs
 
--- src/lib.rt:246:9
 returns-6 : tie.Need-returns-6
 unfolding serial
 returns-6 c = simp (ne-eqb _ _ (c .before .before .before .before .before .before .if1 .left), ne-eqb _ _ (c .before .before .before .before .before .if2 .left), ne-eqb _ _ (c .before .before .before .before .if3 .left), ne-eqb _ _ (c .before .before .before .if4 .left), ne-eqb _ _ (c .before .before .if5 .left), eq-eqb _ _ (c .before .if6 .taken)) (c .view .ensures)
 
--- src/lib.rt:226:1
 returns-7 : tie.Need-returns-7
 unfolding serial
 returns-7 c = simp (ne-eqb _ _ (c .before .before .before .before .before .if1 .left), ne-eqb _ _ (c .before .before .before .before .if2 .left), ne-eqb _ _ (c .before .before .before .if3 .left), ne-eqb _ _ (c .before .before .if4 .left), ne-eqb _ _ (c .before .if5 .left), ne-eqb _ _ (c .if6 .left))

@@ -1,18 +1,16 @@
 use native.Mathlib.Nat.{zero-add}
-use mathlib.Core.Path.{_≡_, refl, sym, ap, _∙_}
-use Prim.Native.Nat.{ℕ, zero, suc, _+_, _-_, _≤_, _<_}
+use mathlib.Core.Path.{_≡_, refl, ap}
+use Prim.Native.Nat.{ℕ, zero, suc, _-_, _<_}
 use native.Mathlib.Omega.{arith}
-use lib.IntN.{ℤ, pos, negsuc, _-ℤ_}
+use lib.IntN.{pos, negsuc, _-ℤ_}
 use mir.Syntax.{w32}
-use mir.Val.{toZ, ofZ, SFits}
+use mir.Val.{toZ}
 use mir.ValLaws.{toZ-pos, toZ-ofZ}
 use borrow.Author.Tests.{lt-ltb, le-ltb}
 use Rattle.commands.specs.Decode.{signed}
 use borrow.Author.Needs.{needs}
 use Rattle.commands.proofs.signed.Statement.{statement}
 use Rattle.commands.proofs.signed.Tie as tie
-use Rattle.commands.proofs.signed.Reads as reads
-use Rattle.commands.proofs.signed.Lts as lts
 
 below : (k : ℕ) → negsuc 0 -ℤ pos k ≡ negsuc k
 below zero = refl
@@ -22,29 +20,23 @@ below (suc k) = ap (λ (n : ℕ). negsuc (suc n)) (zero-add k)
 down : (x : ℕ) → 4294967295 - x < 2147483648 → negsuc 0 -ℤ toZ w32 (4294967295 - x) ≡ negsuc (4294967295 - x)
 down x h = rw (toZ-pos w32 (4294967295 - x) h) (below (4294967295 - x))
 
--- src/lib.rt:43:16
 cast-result : tie.Need-cast-result
 cast-result c = search needs
 
--- src/lib.rt:43:9
 returns : tie.Need-returns
 unfolding signed
 returns c = simp (lt-ltb _ _ (c .if1 .taken))
 
--- src/lib.rt:45:12
 sub-result : tie.Need-sub-result
 sub-result c = search needs
 
--- src/lib.rt:45:11
 cast-result-2 : tie.Need-cast-result-2
 cast-result-2 c = search needs
 
--- src/lib.rt:45:5
 sub-result-2 : tie.Need-sub-result-2
 sub-result-2 c = let h : 4294967295 - c .before .args .x < 2147483648 = omega arith in
     rw (down _ h) (record { sfits = h })
 
--- src/lib.rt:38:1
 returns-2 : tie.Need-returns-2
 unfolding signed
 returns-2 c = let h : 4294967295 - c .before .args .x < 2147483648 = omega arith in

@@ -1,31 +1,22 @@
-use mathlib.Core.Path.{_≡_, refl, sym, ap, _∙_}
 use Rattle.commands.specs.Decode.{stored-image}
 use Rattle.commands.specs.Laws.{there, missing, moment-drop}
 use borrow.Author.Needs.{needs}
 use Rattle.commands.proofs.stored_image.Statement.{statement}
 use Rattle.commands.proofs.stored_image.Tie as tie
-use Rattle.commands.proofs.stored_image.Reads as reads
-use Rattle.commands.proofs.stored_image.Lts as lts
-use Rattle.commands.proofs.moment.Reads as moment-reads
 
--- src/lib.rt:208:8
 sub-if1 : tie.Need-sub-if1
 sub-if1 c = search needs
 
--- src/lib.rt:209:9
 returns : tie.Need-returns
 unfolding stored-image
 returns c = rw (missing 13 _ _ _ (c .if1 .taken))
 
--- src/lib.rt:211:27
 add-moment : tie.Need-add-moment
 add-moment c = search needs
 
--- src/lib.rt:211:9
 moment-requires : tie.Need-moment-requires
 moment-requires c κs = search needs
 
--- src/lib.rt:204:1
 returns-2 : tie.Need-returns-2
 unfolding stored-image
 returns-2 c = rw (there 13 _ _ _ (c .before .if1 .left), moment-drop, c .moment .ensures)

@@ -1,34 +1,25 @@
-use mathlib.Core.Path.{_≡_, refl, sym, ap, _∙_}
 use Rattle.bma150.specs.Calls.{drive-letter}
 use borrow.Author.Needs.{needs}
 use Rattle.bench.proofs.lines.letter.Statement.{statement}
 use Rattle.bench.proofs.lines.letter.Tie as tie
-use Rattle.bench.proofs.lines.letter.Reads as reads
-use Rattle.bench.proofs.lines.letter.Lts as lts
 
--- src/lib.rt:130:26
 enum-told : tie.Need-enum-told
 enum-told c = search needs
 
--- src/lib.rt:131:21
 enum-told-2 : tie.Need-enum-told-2
 enum-told-2 c = search needs
 
--- src/lib.rt:132:22
 enum-told-3 : tie.Need-enum-told-3
 enum-told-3 c = search needs
 
--- src/lib.rt:126:1
 returns : tie.Need-returns
 unfolding drive-letter
 returns c = rw (c .enum-told .given .1)
 
--- src/lib.rt:126:1
 returns-2 : tie.Need-returns-2
 unfolding drive-letter
 returns-2 c = rw (c .enum-told2 .given .1)
 
--- src/lib.rt:126:1
 returns-3 : tie.Need-returns-3
 unfolding drive-letter
 returns-3 c = rw (c .enum-told3 .given .1)

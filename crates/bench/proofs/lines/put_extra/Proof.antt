@@ -1,66 +1,47 @@
-use mathlib.Core.Path.{_≡_, refl, sym, ap, _∙_}
 use native.Mathlib.Omega.{arith}
-use Rattle.bench.specs.Put.{Put, none, _then_, says}
+use Rattle.bench.specs.Put.{none, _then_, says}
 use Rattle.bench.specs.Text.{image-text, length-hexes}
 use Rattle.bench.specs.Line.{extra-text}
 use borrow.Author.Needs.{needs}
 use Rattle.bench.proofs.lines.put_extra.Statement.{statement}
 use Rattle.bench.proofs.lines.put_extra.Tie as tie
-use Rattle.bench.proofs.lines.put_extra.Reads as reads
-use Rattle.bench.proofs.lines.put_extra.Lts as lts
-use Rattle.bench.proofs.lines.put_report.Reads as put-report-reads
-use Rattle.bench.proofs.lines.put_view.Reads as put-view-reads
-use Rattle.bench.proofs.text.put.Reads as put-reads
-use Rattle.bench.proofs.text.put_hexes.Reads as put-hexes-reads
 
--- src/lines.rt:140:27
 enum-told : tie.Need-enum-told
 enum-told c = search needs
 
--- src/lines.rt:141:25
 enum-known-x : tie.Need-enum-known-x
 enum-known-x c = search needs
 
--- src/lines.rt:141:31
 put-report-requires : tie.Need-put-report-requires
 put-report-requires c κs = search needs
 
--- src/lines.rt:142:23
 enum-known-x-2 : tie.Need-enum-known-x-2
 enum-known-x-2 c = search needs
 
--- src/lines.rt:142:29
 put-view-requires : tie.Need-put-view-requires
 put-view-requires c κs = search needs
 
--- src/lines.rt:144:25
 enum-told-2 : tie.Need-enum-told-2
 enum-told-2 c = search needs
 
--- src/lines.rt:144:17
 put-requires : tie.Need-put-requires
 put-requires c κs = search needs
 
--- src/lines.rt:145:13
 put-hexes-requires : tie.Need-put-hexes-requires
 put-hexes-requires c κs = search needs
 
--- src/lines.rt:134:1
 returns : tie.Need-returns
 unfolding extra-text
 returns c = (says none (rw (c .enum-told .given .1)), omega arith)
 
--- src/lines.rt:134:1
 returns-2 : tie.Need-returns-2
 unfolding extra-text
 returns-2 c = (says (c .put-report .ensures .0) (rw (c .before .before .before .x .given .1)), omega arith)
 
--- src/lines.rt:134:1
 returns-3 : tie.Need-returns-3
 unfolding extra-text
 returns-3 c = (says (c .put-view .ensures .0) (rw (c .before .before .before .x2 .given .1)), omega arith)
 
--- src/lines.rt:134:1
 returns-4 : tie.Need-returns-4
 unfolding extra-text image-text
 returns-4 c = (says (c .before .before .before .put .ensures then c .put-hexes .ensures) (rw (c .before .before .before .before .before .enum-told2 .given .1)), omega (arith, c .before .before .before .put .ensures .next, c .put-hexes .ensures .next, length-hexes (c .before .before .before .before .before .before .before .args .image .now)))

@@ -1,46 +1,33 @@
-use mathlib.Core.Path.{_≡_, refl, sym, ap, _∙_}
 use native.Mathlib.Omega.{arith}
-use Rattle.bench.specs.Put.{Put, none, _then_, says}
+use Rattle.bench.specs.Put.{_then_, says}
 use Rattle.bench.specs.Text.{moment-text}
 use Rattle.deadlines.specs.Deadlines.{moment}
 use borrow.Author.Needs.{needs}
 use Rattle.bench.proofs.lines.put_moment.Statement.{statement}
 use Rattle.bench.proofs.lines.put_moment.Tie as tie
-use Rattle.bench.proofs.lines.put_moment.Reads as reads
-use Rattle.bench.proofs.lines.put_moment.Lts as lts
-use Rattle.bench.proofs.text.put.Reads as put-reads
-use Rattle.bench.proofs.text.put_hex16.Reads as put-hex16-reads
 
--- src/lines.rt:192:22
 enum-known-d : tie.Need-enum-known-d
 enum-known-d c = search needs
 
--- src/lines.rt:193:17
 put-hex16-requires : tie.Need-put-hex16-requires
 put-hex16-requires c κs = search needs
 
--- src/lines.rt:194:17
 put-requires : tie.Need-put-requires
 put-requires c κs = search needs
 
--- src/lines.rt:195:13
 put-hex16-requires-2 : tie.Need-put-hex16-requires-2
 put-hex16-requires-2 c κs = search needs
 
--- src/lines.rt:197:32
 enum-told : tie.Need-enum-told
 enum-told c = search needs
 
--- src/lines.rt:197:28
 put-requires-2 : tie.Need-put-requires-2
 put-requires-2 c κs = search needs
 
--- src/lines.rt:186:1
 returns : tie.Need-returns
 unfolding moment-text moment
 returns c = (says (c .before .before .before .before .put-hex16 .ensures .0 then c .before .before .put .ensures then c .put-hex162 .ensures .0) (rw (c .before .before .before .before .before .before .before .d .given .1)), omega (arith, c .before .before .put .ensures .next))
 
--- src/lines.rt:186:1
 returns-2 : tie.Need-returns-2
 unfolding moment-text moment
 returns-2 c = (says (c .put2 .ensures) (rw (c .before .before .enum-told .given .1)), omega (arith, c .put2 .ensures .next))

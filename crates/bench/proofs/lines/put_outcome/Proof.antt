@@ -1,42 +1,30 @@
-use mathlib.Core.Path.{_≡_, refl, sym, ap, _∙_}
 use native.Mathlib.Omega.{arith}
-use Rattle.bench.specs.Put.{Put, none, _then_, says}
+use Rattle.bench.specs.Put.{says}
 use Rattle.bench.specs.Text.{word}
 use Rattle.refusals.specs.Table.{number}
 use borrow.Author.Needs.{needs}
 use Rattle.bench.proofs.lines.put_outcome.Statement.{statement}
 use Rattle.bench.proofs.lines.put_outcome.Tie as tie
-use Rattle.bench.proofs.lines.put_outcome.Reads as reads
-use Rattle.bench.proofs.lines.put_outcome.Lts as lts
-use Rattle.bench.proofs.lines.put_refusal.Reads as put-refusal-reads
-use Rattle.bench.proofs.text.put_word.Reads as put-word-reads
 
--- src/lines.rt:49:39
 enum-told : tie.Need-enum-told
 enum-told c = search needs
 
--- src/lines.rt:49:47
 slice-aggregate-put-word : tie.Need-slice-aggregate-put-word
 slice-aggregate-put-word c = search needs
 
--- src/lines.rt:49:30
 put-word-requires : tie.Need-put-word-requires
 put-word-requires c κs = search needs
 
--- src/lines.rt:50:26
 enum-known-outcome : tie.Need-enum-known-outcome
 enum-known-outcome c = search needs
 
--- src/lines.rt:50:34
 put-refusal-requires : tie.Need-put-refusal-requires
 put-refusal-requires c κs = search needs
 
--- src/lines.rt:43:1
 returns : tie.Need-returns
 unfolding word number
 returns c = (says (c .put-word .ensures) (rw (c .before .before .before .enum-told .given .1)), omega (arith, c .put-word .ensures .next))
 
--- src/lines.rt:43:1
 returns-2 : tie.Need-returns-2
 unfolding number
 returns-2 c = (says (c .put-refusal .ensures .0) (rw (c .before .before .before .outcome .given .1)), omega arith)

@@ -1,68 +1,46 @@
-use mathlib.Core.Path.{_≡_, refl, sym, ap, _∙_}
 use native.Mathlib.Omega.{arith}
-use Rattle.bench.specs.Put.{Put, none, _then_, says}
+use Rattle.bench.specs.Put.{_then_, says}
 use Rattle.bench.specs.Line.{pins}
 use borrow.Author.Needs.{needs}
 use Rattle.bench.proofs.lines.put_pins.Statement.{statement}
 use Rattle.bench.proofs.lines.put_pins.Tie as tie
-use Rattle.bench.proofs.lines.put_pins.Reads as reads
-use Rattle.bench.proofs.lines.put_pins.Lts as lts
-use Rattle.bench.proofs.lines.bit.Reads as bit-reads
-use Rattle.bench.proofs.lines.letter.Reads as letter-reads
-use Rattle.bench.proofs.text.put.Reads as put-reads
-use Rattle.bma150.proofs.types.Bma150.data_output.Reads as data-output-reads
-use Rattle.bma150.proofs.types.Bma150.interrupt.Reads as interrupt-reads
-use Rattle.bma150.proofs.types.Bma150.output.Reads as output-reads
 
--- src/lines.rt:79:17
 interrupt-requires : tie.Need-interrupt-requires
 interrupt-requires c κs = search needs
 
--- src/lines.rt:79:9
 bit-requires : tie.Need-bit-requires
 bit-requires c κs = search needs
 
--- src/lines.rt:80:20
 output-requires : tie.Need-output-requires
 output-requires c κs = search needs
 
--- src/lines.rt:80:9
 letter-requires : tie.Need-letter-requires
 letter-requires c κs = search needs
 
--- src/lines.rt:81:20
 data-output-requires : tie.Need-data-output-requires
 data-output-requires c κs = search needs
 
--- src/lines.rt:81:9
 letter-requires-2 : tie.Need-letter-requires-2
 letter-requires-2 c κs = search needs
 
--- src/lines.rt:82:9
 put-requires : tie.Need-put-requires
 put-requires c κs = search needs
 
--- src/lines.rt:83:9
 put-requires-2 : tie.Need-put-requires-2
 put-requires-2 c κs = search needs
 
--- src/lines.rt:84:9
 put-requires-3 : tie.Need-put-requires-3
 put-requires-3 c κs = search needs
 
--- src/lines.rt:85:9
 put-requires-4 : tie.Need-put-requires-4
 put-requires-4 c κs = search needs
 
--- src/lines.rt:86:9
 put-requires-5 : tie.Need-put-requires-5
 put-requires-5 c κs = search needs
 
--- src/lines.rt:87:5
 put-requires-6 : tie.Need-put-requires-6
 put-requires-6 c κs = search needs
 
--- src/lines.rt:74:1
 returns : tie.Need-returns
 unfolding pins
 returns c = (says (c .before .before .before .before .before .before .before .before .before .before .put .ensures then c .before .before .before .before .before .before .before .before .put2 .ensures then c .before .before .before .before .before .before .put3 .ensures then c .before .before .before .before .put4 .ensures then c .before .before .put5 .ensures then c .put6 .ensures) (rw (c .before .before .before .before .before .before .before .before .before .before .before .before .before .before .before .before .bit .ensures, c .before .before .before .before .before .before .before .before .before .before .before .before .before .before .before .before .before .interrupt .ensures, c .before .before .before .before .before .before .before .before .before .before .before .before .before .before .letter .ensures, c .before .before .before .before .before .before .before .before .before .before .before .before .before .before .before .output .ensures, c .before .before .before .before .before .before .before .before .before .before .before .before .letter2 .ensures, c .before .before .before .before .before .before .before .before .before .before .before .before .before .data-output .ensures)), omega (arith, c .before .before .before .before .before .before .before .before .before .before .put .ensures .next, c .before .before .before .before .before .before .before .before .put2 .ensures .next, c .before .before .before .before .before .before .put3 .ensures .next, c .before .before .before .before .put4 .ensures .next, c .before .before .put5 .ensures .next, c .put6 .ensures .next))

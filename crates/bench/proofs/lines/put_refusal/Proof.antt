@@ -1,130 +1,98 @@
-use mathlib.Core.Path.{_≡_, refl, sym, ap, _∙_}
 use native.Mathlib.Omega.{arith}
-use Rattle.bench.specs.Put.{Put, none, _then_, says}
+use Rattle.bench.specs.Put.{says}
 use Rattle.bench.specs.Text.{word}
 use Rattle.refusals.specs.Table.{refusal-number}
 use borrow.Author.Needs.{needs}
 use Rattle.bench.proofs.lines.put_refusal.Statement.{statement}
 use Rattle.bench.proofs.lines.put_refusal.Tie as tie
-use Rattle.bench.proofs.lines.put_refusal.Reads as reads
-use Rattle.bench.proofs.lines.put_refusal.Lts as lts
-use Rattle.bench.proofs.text.put_word.Reads as put-word-reads
 
--- src/lines.rt:33:42
 enum-told : tie.Need-enum-told
 enum-told c = search needs
 
--- src/lines.rt:33:50
 slice-aggregate-put-word : tie.Need-slice-aggregate-put-word
 slice-aggregate-put-word c = search needs
 
--- src/lines.rt:33:33
 put-word-requires : tie.Need-put-word-requires
 put-word-requires c κs = search needs
 
--- src/lines.rt:34:40
 enum-told-2 : tie.Need-enum-told-2
 enum-told-2 c = search needs
 
--- src/lines.rt:34:48
 slice-aggregate-put-word-2 : tie.Need-slice-aggregate-put-word-2
 slice-aggregate-put-word-2 c = search needs
 
--- src/lines.rt:34:31
 put-word-requires-2 : tie.Need-put-word-requires-2
 put-word-requires-2 c κs = search needs
 
--- src/lines.rt:35:40
 enum-told-3 : tie.Need-enum-told-3
 enum-told-3 c = search needs
 
--- src/lines.rt:35:48
 slice-aggregate-put-word-3 : tie.Need-slice-aggregate-put-word-3
 slice-aggregate-put-word-3 c = search needs
 
--- src/lines.rt:35:31
 put-word-requires-3 : tie.Need-put-word-requires-3
 put-word-requires-3 c κs = search needs
 
--- src/lines.rt:36:39
 enum-told-4 : tie.Need-enum-told-4
 enum-told-4 c = search needs
 
--- src/lines.rt:36:47
 slice-aggregate-put-word-4 : tie.Need-slice-aggregate-put-word-4
 slice-aggregate-put-word-4 c = search needs
 
--- src/lines.rt:36:30
 put-word-requires-4 : tie.Need-put-word-requires-4
 put-word-requires-4 c κs = search needs
 
--- src/lines.rt:37:39
 enum-told-5 : tie.Need-enum-told-5
 enum-told-5 c = search needs
 
--- src/lines.rt:37:47
 slice-aggregate-put-word-5 : tie.Need-slice-aggregate-put-word-5
 slice-aggregate-put-word-5 c = search needs
 
--- src/lines.rt:37:30
 put-word-requires-5 : tie.Need-put-word-requires-5
 put-word-requires-5 c κs = search needs
 
--- src/lines.rt:38:37
 enum-told-6 : tie.Need-enum-told-6
 enum-told-6 c = search needs
 
--- src/lines.rt:38:45
 slice-aggregate-put-word-6 : tie.Need-slice-aggregate-put-word-6
 slice-aggregate-put-word-6 c = search needs
 
--- src/lines.rt:38:28
 put-word-requires-6 : tie.Need-put-word-requires-6
 put-word-requires-6 c κs = search needs
 
--- src/lines.rt:39:38
 enum-told-7 : tie.Need-enum-told-7
 enum-told-7 c = search needs
 
--- src/lines.rt:39:46
 slice-aggregate-put-word-7 : tie.Need-slice-aggregate-put-word-7
 slice-aggregate-put-word-7 c = search needs
 
--- src/lines.rt:39:29
 put-word-requires-7 : tie.Need-put-word-requires-7
 put-word-requires-7 c κs = search needs
 
--- src/lines.rt:27:1
 returns : tie.Need-returns
 unfolding word refusal-number
 returns c = (says (c .put-word .ensures) (rw (c .before .before .before .enum-told .given .1)), omega (arith, c .put-word .ensures .next))
 
--- src/lines.rt:27:1
 returns-2 : tie.Need-returns-2
 unfolding word refusal-number
 returns-2 c = (says (c .put-word2 .ensures) (rw (c .before .before .before .enum-told2 .given .1)), omega (arith, c .put-word2 .ensures .next))
 
--- src/lines.rt:27:1
 returns-3 : tie.Need-returns-3
 unfolding word refusal-number
 returns-3 c = (says (c .put-word3 .ensures) (rw (c .before .before .before .enum-told3 .given .1)), omega (arith, c .put-word3 .ensures .next))
 
--- src/lines.rt:27:1
 returns-4 : tie.Need-returns-4
 unfolding word refusal-number
 returns-4 c = (says (c .put-word4 .ensures) (rw (c .before .before .before .enum-told4 .given .1)), omega (arith, c .put-word4 .ensures .next))
 
--- src/lines.rt:27:1
 returns-5 : tie.Need-returns-5
 unfolding word refusal-number
 returns-5 c = (says (c .put-word5 .ensures) (rw (c .before .before .before .enum-told5 .given .1)), omega (arith, c .put-word5 .ensures .next))
 
--- src/lines.rt:27:1
 returns-6 : tie.Need-returns-6
 unfolding word refusal-number
 returns-6 c = (says (c .put-word6 .ensures) (rw (c .before .before .before .enum-told6 .given .1)), omega (arith, c .put-word6 .ensures .next))
 
--- src/lines.rt:27:1
 returns-7 : tie.Need-returns-7
 unfolding word refusal-number
 returns-7 c = (says (c .put-word7 .ensures) (rw (c .before .before .before .enum-told7 .given .1)), omega (arith, c .put-word7 .ensures .next))

@@ -1,70 +1,53 @@
-use mathlib.Core.Path.{_≡_, refl, sym, ap, _∙_}
 use Rattle.refusals.specs.Table.{refusal-number}
 use borrow.Author.Needs.{needs}
 use Rattle.bench.proofs.lines.refused.Statement.{statement}
 use Rattle.bench.proofs.lines.refused.Tie as tie
-use Rattle.bench.proofs.lines.refused.Reads as reads
-use Rattle.bench.proofs.lines.refused.Lts as lts
 
--- src/lines.rt:154:33
 enum-told : tie.Need-enum-told
 enum-told c = search needs
 
--- src/lines.rt:155:31
 enum-told-2 : tie.Need-enum-told-2
 enum-told-2 c = search needs
 
--- src/lines.rt:156:31
 enum-told-3 : tie.Need-enum-told-3
 enum-told-3 c = search needs
 
--- src/lines.rt:157:30
 enum-told-4 : tie.Need-enum-told-4
 enum-told-4 c = search needs
 
--- src/lines.rt:158:30
 enum-told-5 : tie.Need-enum-told-5
 enum-told-5 c = search needs
 
--- src/lines.rt:159:28
 enum-told-6 : tie.Need-enum-told-6
 enum-told-6 c = search needs
 
--- src/lines.rt:160:29
 enum-told-7 : tie.Need-enum-told-7
 enum-told-7 c = search needs
 
--- src/lines.rt:150:1
 returns : tie.Need-returns
 unfolding refusal-number
 returns c = rw (c .enum-told .given .1)
 
--- src/lines.rt:150:1
 returns-2 : tie.Need-returns-2
 unfolding refusal-number
 returns-2 c = rw (c .enum-told2 .given .1)
 
--- src/lines.rt:150:1
 returns-3 : tie.Need-returns-3
 unfolding refusal-number
 returns-3 c = rw (c .enum-told3 .given .1)
 
--- src/lines.rt:150:1
 returns-4 : tie.Need-returns-4
 unfolding refusal-number
 returns-4 c = rw (c .enum-told4 .given .1)
 
--- src/lines.rt:150:1
 returns-5 : tie.Need-returns-5
 unfolding refusal-number
 returns-5 c = rw (c .enum-told5 .given .1)
 
--- src/lines.rt:150:1
 returns-6 : tie.Need-returns-6
 unfolding refusal-number
 returns-6 c = rw (c .enum-told6 .given .1)
 
--- src/lines.rt:150:1
 returns-7 : tie.Need-returns-7
 unfolding refusal-number
 returns-7 c = rw (c .enum-told7 .given .1)

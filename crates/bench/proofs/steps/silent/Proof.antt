@@ -1,12 +1,9 @@
-use mathlib.Core.Path.{_≡_, refl, sym, ap, _∙_}
+use mathlib.Core.Path.{refl}
 use Rattle.refusals.specs.Table.{number}
-use Rattle.bench.specs.Line.{Gives, extra-text}
+use Rattle.bench.specs.Line.{extra-text}
 use Rattle.bench.proofs.steps.silent.Statement.{statement}
 use Rattle.bench.proofs.steps.silent.Tie as tie
-use Rattle.bench.proofs.steps.silent.Reads as reads
-use Rattle.bench.proofs.steps.silent.Lts as lts
 
--- src/steps.rt:23:1
 returns : tie.Need-returns
 unfolding number extra-text
 returns c = record { leaves = refl; answers = refl; adds = refl }

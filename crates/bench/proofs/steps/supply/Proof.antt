@@ -1,23 +1,16 @@
-use mathlib.Core.Path.{_≡_, refl, sym, ap, _∙_}
+use mathlib.Core.Path.{ap}
 use Rattle.bench.specs.Text.{report-text}
 use Rattle.bench.specs.Line.{gives}
 use borrow.Author.Needs.{needs}
 use Rattle.bench.proofs.steps.supply.Statement.{statement}
 use Rattle.bench.proofs.steps.supply.Tie as tie
-use Rattle.bench.proofs.steps.supply.Reads as reads
-use Rattle.bench.proofs.steps.supply.Lts as lts
-use Rattle.bench.proofs.steps.reported.Reads as reported-reads
-use Rattle.bma150.proofs.types.Bma150.supply.Reads as supply-reads
 
--- src/steps.rt:96:14
 supply-requires : tie.Need-supply-requires
 supply-requires c κs = search needs
 
--- src/steps.rt:96:5
 reported-requires : tie.Need-reported-requires
 reported-requires c κs = search needs
 
--- src/steps.rt:93:1
 returns : tie.Need-returns
 returns c = gives (c .reported .ensures) (c .before .supply .ensures .1 .0) (c .before .supply .ensures .0) (ap report-text (c .before .supply .ensures .1 .1))
 

@@ -1,30 +1,20 @@
-use mathlib.Core.Path.{_≡_, sym, ap, _∙_, refl}
-use Rattle.bench.specs.Put.{Put, none, _then_, says}
+use Rattle.bench.specs.Put.{_then_, says}
 use borrow.Author.Needs.{needs}
 use Rattle.bench.proofs.text.put_hex.Statement.{statement}
 use Rattle.bench.proofs.text.put_hex.Tie as tie
-use Rattle.bench.proofs.text.put_hex.Reads as reads
-use Rattle.bench.proofs.text.put_hex.Lts as lts
-use Rattle.bench.proofs.text.digit.Reads as digit-reads
-use Rattle.bench.proofs.text.put.Reads as put-reads
 
--- src/lib.rt:30:25
 digit-requires : tie.Need-digit-requires
 digit-requires c κs = search needs
 
--- src/lib.rt:30:9
 put-requires : tie.Need-put-requires
 put-requires c κs = search needs
 
--- src/lib.rt:31:17
 digit-requires-2 : tie.Need-digit-requires-2
 digit-requires-2 c κs = search needs
 
--- src/lib.rt:31:5
 put-requires-2 : tie.Need-put-requires-2
 put-requires-2 c κs = search needs
 
--- src/lib.rt:26:1
 returns : tie.Need-returns
 returns c = says (c .before .before .before .put .ensures then c .put2 .ensures) (rw (c .before .before .before .before .digit .ensures, c .before .digit2 .ensures))
 

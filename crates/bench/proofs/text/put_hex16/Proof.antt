@@ -1,23 +1,17 @@
-use mathlib.Core.Path.{_≡_, refl, sym, ap, _∙_}
+use mathlib.Core.Path.{refl}
 use native.Mathlib.Omega.{arith}
-use Rattle.bench.specs.Put.{Put, none, _then_, says}
+use Rattle.bench.specs.Put.{_then_, says}
 use Rattle.bench.specs.Text.{hex16}
 use borrow.Author.Needs.{needs}
 use Rattle.bench.proofs.text.put_hex16.Statement.{statement}
 use Rattle.bench.proofs.text.put_hex16.Tie as tie
-use Rattle.bench.proofs.text.put_hex16.Reads as reads
-use Rattle.bench.proofs.text.put_hex16.Lts as lts
-use Rattle.bench.proofs.text.put_hex8.Reads as put-hex8-reads
 
--- src/text.rt:84:9
 put-hex8-requires : tie.Need-put-hex8-requires
 put-hex8-requires c κs = search needs
 
--- src/text.rt:85:5
 put-hex8-requires-2 : tie.Need-put-hex8-requires-2
 put-hex8-requires-2 c κs = search needs
 
--- src/text.rt:79:1
 returns : tie.Need-returns
 unfolding hex16
 returns c = (says (c .before .before .put-hex8 .ensures .0 then c .put-hex82 .ensures .0) refl, omega arith)

@@ -1,31 +1,23 @@
-use mathlib.Core.Path.{_≡_, refl, sym, ap, _∙_}
+use mathlib.Core.Path.{refl}
 use native.Mathlib.Omega.{arith}
-use Rattle.bench.specs.Put.{Put, none, _then_, says}
+use Rattle.bench.specs.Put.{_then_, says}
 use Rattle.bench.specs.Text.{hex4}
 use borrow.Author.Needs.{needs}
 use Rattle.bench.proofs.text.put_hex4.Statement.{statement}
 use Rattle.bench.proofs.text.put_hex4.Tie as tie
-use Rattle.bench.proofs.text.put_hex4.Reads as reads
-use Rattle.bench.proofs.text.put_hex4.Lts as lts
-use Rattle.bench.proofs.text.put_hex.Reads as put-hex-reads
 
--- src/text.rt:66:29
 cast-put-hex : tie.Need-cast-put-hex
 cast-put-hex c = search needs
 
--- src/text.rt:66:9
 put-hex-requires : tie.Need-put-hex-requires
 put-hex-requires c κs = search needs
 
--- src/text.rt:67:21
 cast-put-hex-2 : tie.Need-cast-put-hex-2
 cast-put-hex-2 c = search needs
 
--- src/text.rt:67:5
 put-hex-requires-2 : tie.Need-put-hex-requires-2
 put-hex-requires-2 c κs = search needs
 
--- src/text.rt:61:1
 returns : tie.Need-returns
 unfolding hex4
 returns c = (says (c .before .before .put-hex .ensures then c .put-hex2 .ensures) refl, omega (arith, c .before .before .put-hex .ensures .next, c .put-hex2 .ensures .next))

@@ -1,0 +1,39 @@
+-- 01's example: the input and exactly its four lines. Assumes nothing.
+use mathlib.Core.Path.{_≡_, refl}
+use mathlib.Core.Bool.{false}
+use mathlib.Core.List.{List, [], _∷_}
+use Prim.Native.Nat.{ℕ}
+use Rattle.registers.specs.Access.{withheld, unreadable, image-blocks, locked}
+use Rattle.interrupts.specs.Pin as Pin
+use Rattle.interrupts.specs.State.{configure}
+use Rattle.bma150.specs.Image.{stock, shadowing}
+use Rattle.bma150.specs.Bytes.{peek, shown}
+use Rattle.bma150.specs.Control.{interrupt, shows-new-data}
+use Rattle.bma150.specs.Serial.{output, data-output, spi-drives, i2c-holds}
+use Rattle.refusals.specs.Table.{row, wrong-length, late, refusal-of-start, unless-refused}
+use Rattle.bma150.specs.Calls.{after-start, drive-letter, view-value}
+use Rattle.deadlines.specs.Deadlines.{is-set}
+use Rattle.commands.specs.Decode.{number-at, signed, temperature, view, serial, named, decoded, size, is-bad}
+use Rattle.bench.specs.Text.{word, bit, view-text, due-text}
+use Rattle.bench.specs.Line.{number, step, extra, added, pins, line, said}
+use Rattle.bench.specs.Run.{turn, iter, whole}
+
+-- 03 00 00 4e 20 0b 00 0b 16 ff
+abbrev pub input : List ℕ
+input = 0x03 ∷ 0x00 ∷ 0x00 ∷ 0x4e ∷ 0x20 ∷ 0x0b ∷ 0x00 ∷ 0x0b ∷ 0x16 ∷ 0xff ∷ []
+
+abbrev pub text : List ℕ
+text =
+    -- 03 ok 0 F F
+    48 ∷ 51 ∷ 32 ∷ 111 ∷ 107 ∷ 32 ∷ 48 ∷ 32 ∷ 70 ∷ 32 ∷ 70 ∷ 10
+    -- 0b ok 0 F F 02
+    ∷ 48 ∷ 98 ∷ 32 ∷ 111 ∷ 107 ∷ 32 ∷ 48 ∷ 32 ∷ 70 ∷ 32 ∷ 70 ∷ 32 ∷ 48 ∷ 50 ∷ 10
+    -- 0b ok 0 F F --
+    ∷ 48 ∷ 98 ∷ 32 ∷ 111 ∷ 107 ∷ 32 ∷ 48 ∷ 32 ∷ 70 ∷ 32 ∷ 70 ∷ 32 ∷ 45 ∷ 45 ∷ 10
+    -- ff command 0 F F
+    ∷ 102 ∷ 102 ∷ 32 ∷ 99 ∷ 111 ∷ 109 ∷ 109 ∷ 97 ∷ 110 ∷ 100 ∷ 32 ∷ 48 ∷ 32 ∷ 70 ∷ 32 ∷ 70 ∷ 10 ∷ []
+
+-- it begins with the stock image at time 0
+pub example : whole false (after-start (record { 0 = 0; 1 = 0 }) stock) input .text ≡ text
+unfolding row wrong-length late refusal-of-start unless-refused after-start shadowing peek shown interrupt shows-new-data output data-output spi-drives i2c-holds drive-letter view-value is-set withheld unreadable image-blocks locked Pin.output Pin.threshold-output Pin.motion-output configure number-at signed temperature view serial named decoded size is-bad word bit view-text due-text number step extra added pins line said turn iter whole
+example = refl
