@@ -40,8 +40,11 @@ unfoldable pub block : Bool → Bool → Bma150 → List ℕ → Bench
 block trace over s l = iter (pace trace over) (length l) (bench s l [] false)
 
 -- what `run` answers: the sensor, the bytes read, where the text ends, and whether it stopped
+abbrev pub after-block : Bma150 → ℕ → ℕ → Bool → Ran
+after-block sensor read written stop = record { sensor = sensor; read = read; written = written; stop = stop }
+
 abbrev pub answer : ℕ → Bench → Ran
-answer n b = record { sensor = b .sensor; read = n - length (b .left); written = length (b .text); stop = b .stop }
+answer n b = after-block (b .sensor) (n - length (b .left)) (length (b .text)) (b .stop)
 
 -- ---- a step that takes a byte or changes nothing, as often as there are bytes, settles
 

@@ -35,6 +35,17 @@ pub fn least(over: bool) -> usize
     32
 }
 
+fn after_block(sensor: Bma150, read: usize, written: usize, stop: bool) -> Ran
+    ensures { λ r. ⌜ r ≡ B.after-block sensor read written stop ⌝ }
+{
+    Ran {
+        sensor: sensor,
+        read: read,
+        written: written,
+        stop: stop,
+    }
+}
+
 // The commands of a block of input, while enough bytes are left and a line fits.
 pub fn run(input: &[u8], over: bool, trace: bool, out: &mut [u8; 65536], sensor: Bma150) -> Ran
     ensures { λ r. ⌜ r ≡ B.answer (length (now (input .entry))) (B.block trace over sensor (now (input .entry))) ⌝ }
@@ -48,12 +59,7 @@ pub fn run(input: &[u8], over: bool, trace: bool, out: &mut [u8; 65536], sensor:
     let mut n = sensor;
     while enough <= input.len() - at {
         if 65408 < p {
-            return Ran {
-                sensor: n,
-                read: at,
-                written: p,
-                stop: false,
-            };
+            return after_block(n, at, p, false);
         }
         let b = input[at];
         let c = decode(input, at);
@@ -63,18 +69,8 @@ pub fn run(input: &[u8], over: bool, trace: bool, out: &mut [u8; 65536], sensor:
         let m = r.sensor;
         n = m;
         if is_bad(c) {
-            return Ran {
-                sensor: n,
-                read: at,
-                written: p,
-                stop: true,
-            };
+            return after_block(n, at, p, true);
         }
     }
-    Ran {
-        sensor: n,
-        read: at,
-        written: p,
-        stop: false,
-    }
+    after_block(n, at, p, false)
 }

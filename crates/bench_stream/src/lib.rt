@@ -6,6 +6,7 @@ ghost use lib.ListN.{length, take, drop};
 ghost use Rattle.bench.specs.Put.{Put};
 ghost use Rattle.bench_stream.specs.Loop as S;
 use bench::run;
+use bma150::image::stock;
 use bma150::types::Bma150;
 use time::Time;
 
@@ -124,28 +125,8 @@ fn goes_on(t: Turn) -> bool {
 fn begin() -> Turn
     ensures { λ r. ⌜ r ≡ S.first ⌝ }
 {
-    let stock = [
-        3,
-        20,
-        150,
-        160,
-        150,
-        0,
-        0,
-        162,
-        13,
-        14,
-        128,
-        0,
-        0,
-        0,
-        0,
-        128,
-        128,
-        128,
-        0,
-    ];
-    let r = Bma150::start(Time(0, 0), &stock);
+    let image = stock();
+    let r = Bma150::start(Time(0, 0), &image);
     let s = r.sensor;
     Turn {
         at: 0,

@@ -92,7 +92,7 @@ pub(crate) fn reset_registers() -> [u8; 62]
 }
 
 // The stock image.
-pub(crate) fn stock() -> [u8; 19]
+pub fn stock() -> [u8; 19]
     ensures { λ r. ⌜ r ≡ Im.stock ⌝ }
 {
     [

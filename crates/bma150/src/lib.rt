@@ -2,7 +2,7 @@
 mod bytes;
 mod calls;
 mod due;
-mod image;
+pub mod image;
 pub mod lent;
 mod mode;
 mod parts;

@@ -24,10 +24,13 @@ loop-holds c = (omega arith, omega arith, begun)
 sub-loop : tie.Need-sub-loop Inv-loop μ-loop
 sub-loop c = search needs
 
+after-block-requires : tie.Need-after-block-requires Inv-loop μ-loop
+after-block-requires c κs = search needs
+
 returns : tie.Need-returns Inv-loop μ-loop
-returns c = let b = c .before .before .loop .inv .2 in
-    let done = finished b (c .before .before .loop .inv .0) (pace-full _ _ _ (omega (arith, b .bytes .next))) in
-    (done .0, (done .1, (done .2, (omega arith, omega arith))))
+returns c = let b = c .before .before .before .loop .inv .2 in
+    let done = finished b (c .before .before .before .loop .inv .0) (pace-full _ _ _ (omega (arith, b .bytes .next))) in
+    rw (c .after-block .ensures) (done .0, (done .1, (done .2, (omega arith, omega arith))))
 
 shared-slice-read-b : tie.Need-shared-slice-read-b Inv-loop μ-loop
 shared-slice-read-b c = let h : 0 < c .before .before .before .before .least .result = rw (c .before .before .before .before .least .ensures) (least-some _) in omega arith
@@ -52,12 +55,15 @@ add-at c = let t : least (c .before .before .before .before .before .before .bef
 is-bad-requires : tie.Need-is-bad-requires Inv-loop μ-loop
 is-bad-requires c κs = search needs
 
+after-block-requires-2 : tie.Need-after-block-requires-2 Inv-loop μ-loop
+after-block-requires-2 c κs = search needs
+
 returns-2 : tie.Need-returns-2 Inv-loop μ-loop
-returns-2 c = let t : least (c .before .before .before .before .before .before .before .before .before .before .before .before .before .before .args .over) ≤ length (c .before .before .before .before .before .before .before .before .before .before .before .before .before .before .args .input .now) - c .before .before .before .before .before .before .before .before .before .before .before .loop .at = rw (sym (c .before .before .before .before .before .before .before .before .before .before .before .before .least .ensures)) (c .before .before .before .before .before .before .before .before .before .before .loop-test .taken) in
-    let adv : (c .before .before .before .before .before .before .before .before .before .before .before .loop .at + c .before .before .before .size .result ≤ length (c .before .before .before .before .before .before .before .before .before .before .before .before .before .before .args .input .now)) × (1 ≤ c .before .before .before .size .result) = advance (c .before .before .before .before .before .before .before .before .before .before .before .before .before .before .args .input .now) (c .before .before .before .before .before .before .before .before .before .before .before .loop .at) (least-some (c .before .before .before .before .before .before .before .before .before .before .before .before .before .before .args .over)) t (c .before .before .before .before .before .before .before .decode .ensures) (c .before .before .before .size .ensures) in
-    let b = went (c .before .before .before .before .before .before .before .before .before .before .before .loop .inv .2) t (c .before .before .before .before .before .before .before .before .before .if1 .left) (c .before .before .before .before .before .before .before .decode .ensures) (c .before .before .before .before .before .before .serve .ensures) (c .before .before .before .size .ensures) (sym (c .if2 .taken) ∙ c .before .is-bad .ensures) (c .before .before .before .before .write-line .ensures .0) in
+returns-2 c = let t : least (c .before .before .before .before .before .before .before .before .before .before .before .before .before .before .before .args .over) ≤ length (c .before .before .before .before .before .before .before .before .before .before .before .before .before .before .before .args .input .now) - c .before .before .before .before .before .before .before .before .before .before .before .before .loop .at = rw (sym (c .before .before .before .before .before .before .before .before .before .before .before .before .before .least .ensures)) (c .before .before .before .before .before .before .before .before .before .before .before .loop-test .taken) in
+    let adv : (c .before .before .before .before .before .before .before .before .before .before .before .before .loop .at + c .before .before .before .before .size .result ≤ length (c .before .before .before .before .before .before .before .before .before .before .before .before .before .before .before .args .input .now)) × (1 ≤ c .before .before .before .before .size .result) = advance (c .before .before .before .before .before .before .before .before .before .before .before .before .before .before .before .args .input .now) (c .before .before .before .before .before .before .before .before .before .before .before .before .loop .at) (least-some (c .before .before .before .before .before .before .before .before .before .before .before .before .before .before .before .args .over)) t (c .before .before .before .before .before .before .before .before .decode .ensures) (c .before .before .before .before .size .ensures) in
+    let b = went (c .before .before .before .before .before .before .before .before .before .before .before .before .loop .inv .2) t (c .before .before .before .before .before .before .before .before .before .before .if1 .left) (c .before .before .before .before .before .before .before .before .decode .ensures) (c .before .before .before .before .before .before .before .serve .ensures) (c .before .before .before .before .size .ensures) (sym (c .before .if2 .taken) ∙ c .before .before .is-bad .ensures) (c .before .before .before .before .before .write-line .ensures .0) in
     let done = finished b (adv .0) (pace-stopped _ _ _ (stopped-turn _ _ refl)) in
-    (done .0, (done .1, (done .2, (adv .0, omega arith))))
+    rw (c .after-block2 .ensures) (done .0, (done .1, (done .2, (adv .0, omega arith))))
 
 loop-less : tie.Need-loop-less Inv-loop μ-loop
 loop-less c = let t : least (c .before .before .before .before .before .before .before .before .before .before .before .before .before .before .args .over) ≤ length (c .before .before .before .before .before .before .before .before .before .before .before .before .before .before .args .input .now) - c .before .before .before .before .before .before .before .before .before .before .before .loop .at = rw (sym (c .before .before .before .before .before .before .before .before .before .before .before .before .least .ensures)) (c .before .before .before .before .before .before .before .before .before .before .loop-test .taken) in
@@ -69,11 +75,14 @@ loop-again c = let t : least (c .before .before .before .before .before .before 
     let adv : (c .before .before .before .before .before .before .before .before .before .before .before .loop .at + c .before .before .before .size .result ≤ length (c .before .before .before .before .before .before .before .before .before .before .before .before .before .before .args .input .now)) × (1 ≤ c .before .before .before .size .result) = advance (c .before .before .before .before .before .before .before .before .before .before .before .before .before .before .args .input .now) (c .before .before .before .before .before .before .before .before .before .before .before .loop .at) (least-some (c .before .before .before .before .before .before .before .before .before .before .before .before .before .before .args .over)) t (c .before .before .before .before .before .before .before .decode .ensures) (c .before .before .before .size .ensures) in
     (adv .0, omega arith, went (c .before .before .before .before .before .before .before .before .before .before .before .loop .inv .2) t (c .before .before .before .before .before .before .before .before .before .if1 .left) (c .before .before .before .before .before .before .before .decode .ensures) (c .before .before .before .before .before .before .serve .ensures) (c .before .before .before .size .ensures) (sym (c .if2 .left) ∙ c .before .is-bad .ensures) (c .before .before .before .before .write-line .ensures .0))
 
+after-block-requires-3 : tie.Need-after-block-requires-3 Inv-loop μ-loop
+after-block-requires-3 c κs = search needs
+
 returns-3 : tie.Need-returns-3 Inv-loop μ-loop
-returns-3 c = let b = c .before .loop .inv .2 in
-    let short : length (drop (c .before .loop .at) (c .before .before .before .before .args .input .now)) < least (c .before .before .before .before .args .over) = rw (length-drop, sym (c .before .before .least .ensures)) (c .loop-test .left) in
-    let done = finished b (c .before .loop .inv .0) (pace-short _ _ _ short) in
-    (done .0, (done .1, (done .2, (omega arith, omega arith))))
+returns-3 c = let b = c .before .before .loop .inv .2 in
+    let short : length (drop (c .before .before .loop .at) (c .before .before .before .before .before .args .input .now)) < least (c .before .before .before .before .before .args .over) = rw (length-drop, sym (c .before .before .before .least .ensures)) (c .before .loop-test .left) in
+    let done = finished b (c .before .before .loop .inv .0) (pace-short _ _ _ short) in
+    rw (c .after-block3 .ensures) (done .0, (done .1, (done .2, (omega arith, omega arith))))
 
 pub run-spec : {M : Type 1} → statement M
 run-spec =
@@ -84,6 +93,7 @@ run-spec =
     least-requires
     loop-holds
     sub-loop
+    after-block-requires
     returns
     shared-slice-read-b
     decode-requires
@@ -92,7 +102,9 @@ run-spec =
     size-requires
     add-at
     is-bad-requires
+    after-block-requires-2
     returns-2
     loop-less
     loop-again
+    after-block-requires-3
     returns-3)

@@ -1,5 +1,8 @@
 use Rattle.bench_stream.specs.declared.Turn.{Turn}
-use mathlib.Core.Path.{ap}
+use Prim.Native.Nat.{ℕ}
+use mathlib.Core.Path.{ap, _∙_}
+use mathlib.Core.List.{List}
+use Rattle.bma150.specs.Calls.{after-start}
 use mathlib.Core.Bool.{false}
 use Rattle.bma150.specs.declared.types.Bma150.{Bma150}
 use borrow.Author.Needs.{needs}
@@ -9,6 +12,9 @@ use Rattle.bench_stream.proofs.begin.Tie as tie
 abbrev turn : Bma150 → Turn
 turn s = record { at = 0; have = 0; over = false; stop = false; sensor = s }
 
+stock-requires : tie.Need-stock-requires
+stock-requires c κs = search needs
+
 slice-aggregate-start : tie.Need-slice-aggregate-start
 slice-aggregate-start c = search needs
 
@@ -16,7 +22,7 @@ start-requires : tie.Need-start-requires
 start-requires c κs = search needs
 
 returns : tie.Need-returns
-returns c = ap (λ (s : Bma150). turn s) (c .before .start .ensures .1)
+returns c = ap (λ (s : Bma150). turn s) (c .before .start .ensures .1 ∙ ap (λ (l : List ℕ). after-start (record { 0 = 0; 1 = 0 }) l) (c .before .before .before .stock .ensures))
 
 pub begin-spec : {M : Type 1} → statement M
-begin-spec = tie.close (tie.spec slice-aggregate-start start-requires returns)
+begin-spec = tie.close (tie.spec stock-requires slice-aggregate-start start-requires returns)
