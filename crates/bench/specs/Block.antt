@@ -14,12 +14,12 @@ use Rattle.commands.specs.declared.Command.{Command}
 use Rattle.commands.specs.Decode.{decoded, image, size, is-bad}
 use Rattle.commands.specs.Laws.{head-drop}
 use Rattle.commands.specs.More.{decoded-more, size-pos}
-use Rattle.bma150.specs.declared.types.Bma150.{Bma150}
-use Rattle.refusals.specs.Table as R
+use Rattle.bma150.specs.declared.host.Bma150.{Bma150}
 use Rattle.bench.specs.declared.Ran.{Ran}
-use Rattle.bench.specs.declared.types.Served.{Served}
+use Rattle.bench.specs.declared.types.Reply.{Reply}
 use Rattle.bench.specs.Put.{Put, none, _then_, says}
-use Rattle.bench.specs.Line.{number, step, extra, line, said, extra-text, Gives}
+use Rattle.bma150.specs.Called.{Called}
+use Rattle.bench.specs.Line.{commanded, line, said, replied}
 use Rattle.bench.specs.Run.{Bench, bench, done, turn, iter, iter-add, Goes, stay, and-then, one, turn-at}
 
 -- ---- a block
@@ -152,23 +152,17 @@ pub begun : {trace over : Bool} {s : Bma150} {input d : List ℕ} → Upto trace
 unfolding iter
 begun = record { turns = 0; text = []; is = refl; bytes = none }
 
--- the line of the reply is the line of the command
-pub spoken : (trace : Bool) (b : ℕ) (n : Bma150) (c : Command) (i : List ℕ) (r : Served) → Gives r (step n c i) (number n c i) (extra n c)
-    → line trace b (R.number (r .outcome)) (r .sensor) (extra-text (r .extra) (r .image)) ≡ said trace b n c i
-unfolding said
-spoken trace b n c i r g = rw (g .leaves, g .answers, g .adds)
-
 module _ {trace over : Bool} {s : Bma150} {input d e : List ℕ} {n : Bma150} {at p : ℕ} {f : List ℕ} {q : ℕ} where
-  pub went : {c : Command} {r : Served} {k : ℕ} {z : Bool} → Upto trace over s input d e n at p false → least over ≤ length input - at → p ≤ room
-      → c ≡ decoded (drop at input) → Gives r (step n c (image (drop at input))) (number n c (image (drop at input))) (extra n c) → k ≡ size c → z ≡ is-bad c
-      → Put e p (line trace (getD input at 0) (R.number (r .outcome)) (r .sensor) (extra-text (r .extra) (r .image))) f q
+  pub went : {c : Command} (r : Reply) {k : ℕ} {z : Bool} → Upto trace over s input d e n at p false → least over ≤ length input - at → p ≤ room
+      → c ≡ decoded (drop at input) → replied r ≡ commanded n c (image (drop at input)) → k ≡ size c → z ≡ is-bad c
+      → Put e p (line trace (getD input at 0) (replied r)) f q
       → Upto trace over s input d f (r .sensor) (at + k) q z
   unfolding iter
-  went {c} {r} {k} {z} b g fits ec er ek ez w =
+  went {c} r {k} {z} b g fits ec er ek ez w =
       let l : least over ≤ length (drop at input) = simp length-drop (omega arith) in
       let l0 : 0 < length (drop at input) = omega (arith, least-some over) in
       let fill : length (b .text) ≤ room = omega (arith, b .bytes .next) in
-      rw (ek, ez, er .leaves)
+      rw (ek, ez, ap (λ (x : Called). x .sensor) er)
       (record {
         turns = suc (b .turns);
         text = b .text ++ said trace (getD input at 0) n c (image (drop at input));
@@ -176,7 +170,7 @@ module _ {trace over : Bool} {s : Bma150} {input d e : List ℕ} {n : Bma150} {a
             ∙ pace-turn trace over (bench n (drop at input) (b .text) false) l fill
             ∙ turn-at trace n (drop at input) (b .text) l0
             ∙ rw (sym ec, head-drop at input, drop-drop (size c) at input);
-        bytes = b .bytes then says w (spoken trace (getD input at 0) n c (image (drop at input)) r er);
+        bytes = b .bytes then says w (ap (line trace (getD input at 0)) er);
       })
 
 -- the loop is left: the block is done

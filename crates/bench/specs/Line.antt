@@ -1,112 +1,76 @@
--- The step of a command and the line that is written of it (01, "Bench program"). Assumes nothing.
-use mathlib.Core.Path.{_≡_, _∙_}
+-- What a command leaves and answers, and the line that is written of it (01, "Bench program"). Assumes nothing.
+use mathlib.Core.Path.{_≡_}
 use mathlib.Core.Bool.{Bool, cond}
 use mathlib.Core.List.{List, [], _∷_, _++_}
 use Prim.Native.Nat.{ℕ}
 use lib.Dec.{eqb}
-use lib.ListN.{replicate}
 use Rattle.time.specs.declared.Time.{Time}
 use Rattle.commands.specs.declared.Command.{Command}
 use Rattle.commands.specs.declared.Command.the-variants as Command
-use Rattle.bma150.specs.declared.types.Bma150.{Bma150}
-use Rattle.refusals.specs.Table as R
-use Rattle.bma150.specs.Calls as K
-use Rattle.bma150.specs.Control.{interrupt}
-use Rattle.bma150.specs.Serial.{output, data-output}
+use Rattle.calls.specs.Table as R
+use Rattle.bma150.specs.declared.host.Bma150.{Bma150}
+use Rattle.bma150.specs.Values.{drive-letter, report-values, view-value}
+use Rattle.bma150.specs.Called.{Added, Called, called, start-number, after-start, interrupt, output, data-output, next-due}
 use Rattle.bench.specs.declared.types.Extra.{Extra}
 use Rattle.bench.specs.declared.types.Extra.the-variants as Extra
-use Rattle.bench.specs.declared.types.Served.{Served}
+use Rattle.bench.specs.declared.types.Reply.{Reply}
 use Rattle.bench.specs.Text.{space, line-feed, hex, word, bit, view-text, report-text, image-text, due-text}
 
--- ---- what a command does: the call of the same name, by bma150's definitions; `image` is a start's 19 bytes
+-- ---- what a command leaves and answers; `image` is a start's 19 bytes
 
--- acceptance, 0, or the refusal's number; temperature, select and view have no refusal
-unfoldable pub number : Bma150 → Command → List ℕ → ℕ
-number s (Command.Start t) image = K.start-number t image
-number s (Command.Accelerations t x y z) image = K.accelerations-number s t x y z
-number s (Command.Temperature x) image = R.no-refusal
-number s (Command.Supply t rail) image = K.supply-number s t
-number s (Command.Due t) image = K.due-number s t
-number s (Command.Select on) image = R.no-refusal
-number s (Command.Rising t mosi) image = K.rising-number s t
-number s (Command.Falling t) image = K.falling-number s t
-number s (Command.Pins t before after) image = K.pins-number s t
-number s (Command.StoredImage t) image = K.stored-image-number s t 19
-number s (Command.View address) image = R.no-refusal
-number s Command.Bad image = R.command
+-- this number, and nothing added
+abbrev pub silent : Bma150 → ℕ → Called
+silent s n = record { number = n; sensor = s; adds = Added.nothing }
 
 -- a start begins with a new sensor; a refused one touches none
 unfoldable pub started : Bma150 → Time → List ℕ → Bma150
-started s t image = cond (eqb (K.start-number t image) 0) (K.after-start t image) s
+started s t image = cond (eqb (start-number t image) 0) (after-start t image) s
 
--- a bad command changes nothing
-unfoldable pub step : Bma150 → Command → List ℕ → Bma150
-step s (Command.Start t) image = started s t image
-step s (Command.Accelerations t x y z) image = K.after-accelerations s t x y z
-step s (Command.Temperature x) image = K.after-temperature s x
-step s (Command.Supply t rail) image = K.after-supply s t rail
-step s (Command.Due t) image = K.after-due s t
-step s (Command.Select on) image = K.after-select s on
-step s (Command.Rising t mosi) image = K.after-rising s t mosi
-step s (Command.Falling t) image = K.after-falling s t
-step s (Command.Pins t before after) image = K.after-pins s t before after
-step s (Command.StoredImage t) image = s
-step s (Command.View address) image = s
-step s Command.Bad image = s
+-- a start, a call of the host, or refusal 7, which changes nothing
+unfoldable pub commanded : Bma150 → Command → List ℕ → Called
+commanded s (Command.Start t) image = silent (started s t image) (start-number t image)
+commanded s (Command.Host c) image = called s c
+commanded s Command.Bad image = silent s R.command
 
--- the buffer of 19 bytes that the stored-image call is lent
-abbrev pub buffer : List ℕ
-buffer = replicate 19 0
+abbrev pub step : Bma150 → Command → List ℕ → Bma150
+step s c image = commanded s c image .sensor
 
 -- ---- the line
 
 -- an accepted 0b adds the byte or `--`, 0a its 38 digits, 04 and 05 the report
-unfoldable pub extra : Bma150 → Command → List ℕ
-extra s (Command.Start t) = []
-extra s (Command.Accelerations t x y z) = []
-extra s (Command.Temperature x) = []
-extra s (Command.Supply t rail) = report-text (K.report-values (K.supply-report s t rail))
-extra s (Command.Due t) = report-text (K.report-values (K.due-report s t))
-extra s (Command.Select on) = []
-extra s (Command.Rising t mosi) = []
-extra s (Command.Falling t) = []
-extra s (Command.Pins t before after) = []
-extra s (Command.StoredImage t) = image-text (K.buffer-after s t buffer)
-extra s (Command.View address) = view-text (K.view-value (K.viewed s address))
-extra s Command.Bad = []
-
--- a refused command adds nothing
-unfoldable pub added : ℕ → List ℕ → List ℕ
-added number text = cond (eqb number 0) text []
+unfoldable pub added-text : Added → List ℕ
+added-text Added.nothing = []
+added-text (Added.report values) = report-text values
+added-text (Added.viewed value) = view-text value
+added-text (Added.put bytes) = image-text bytes
 
 -- interrupt; four-wire output, then data pin
 unfoldable pub pins : Bma150 → List ℕ
-pins s = space ∷ bit (interrupt s) ∷ space ∷ K.drive-letter (output s) ∷ space ∷ K.drive-letter (data-output s) ∷ []
+pins s = space ∷ bit (interrupt s) ∷ space ∷ drive-letter (output s) ∷ space ∷ drive-letter (data-output s) ∷ []
 
 -- command; `ok` or the table's word; pins after the command; what it adds; the trace's next due
-unfoldable pub line : Bool → ℕ → ℕ → Bma150 → List ℕ → List ℕ
-line trace command number after text =
-    hex command ++ (space ∷ []) ++ word number ++ pins after ++ added number text ++ due-text trace (K.next-due after) ++ (line-feed ∷ [])
+unfoldable pub line : Bool → ℕ → Called → List ℕ
+line trace command k =
+    hex command ++ (space ∷ []) ++ word (k .number) ++ pins (k .sensor) ++ added-text (k .adds) ++ due-text trace (next-due (k .sensor)) ++ (line-feed ∷ [])
 
 -- the line of the command c, whose first byte is b
-unfoldable pub said : Bool → ℕ → Bma150 → Command → List ℕ → List ℕ
-said trace b s c image = line trace b (number s c image) (step s c image) (extra s c)
+abbrev pub said : Bool → ℕ → Bma150 → Command → List ℕ → List ℕ
+said trace b s c image = line trace b (commanded s c image)
 
 -- ---- what the code hands from the step to the line
 
--- the text of its values
-unfoldable pub extra-text : Extra → List ℕ → List ℕ
-extra-text Extra.Nothing image = []
-extra-text (Extra.Reported report) image = report-text (K.report-values report)
-extra-text (Extra.Viewed view) image = view-text (K.view-value view)
-extra-text Extra.Image image = image-text image
+abbrev pub no-extra : Extra
+no-extra = Extra.Nothing
 
--- the reply r has the sensor t, the number n and the text x
-pub record Gives (r : Served) (t : Bma150) (n : ℕ) (x : List ℕ) : Type 0 where
-  pub leaves : r .sensor ≡ t
-  pub answers : R.number (r .outcome) ≡ n
-  pub adds : extra-text (r .extra) (r .image) ≡ x
+unfoldable pub extra-adds : Extra → List ℕ → Added
+extra-adds Extra.Nothing image = Added.nothing
+extra-adds (Extra.Reported report) image = Added.report (report-values report)
+extra-adds (Extra.Viewed view) image = Added.viewed (view-value view)
+extra-adds Extra.Image image = Added.put image
 
--- the same by other names
-pub gives : {r : Served} {s t : Bma150} {n m : ℕ} {x y : List ℕ} → Gives r s n x → s ≡ t → n ≡ m → x ≡ y → Gives r t m y
-gives g a b c = record { leaves = g .leaves ∙ a; answers = g .answers ∙ b; adds = g .adds ∙ c }
+-- whatever the image
+abbrev pub same-adds : Extra → Added → Type 0
+same-adds x a = (image : List ℕ) → extra-adds x image ≡ a
+
+abbrev pub replied : Reply → Called
+replied r = record { number = R.number (r .outcome); sensor = r .sensor; adds = extra-adds (r .extra) (r .image) }

@@ -13,8 +13,9 @@ use Rattle.commands.specs.declared.Command.{Command}
 use Rattle.commands.specs.declared.Command.the-variants as Command
 use Rattle.commands.specs.Decode.{decoded, image, size, is-bad}
 use Rattle.commands.specs.More.{image-there, image-more, size-pos, size-fits}
-use Rattle.bma150.specs.declared.types.Bma150.{Bma150}
-use Rattle.bench.specs.Line.{number, step, extra, line, said}
+use Rattle.bma150.specs.declared.host.Bma150.{Bma150}
+use Rattle.bma150.specs.Called.{Called}
+use Rattle.bench.specs.Line.{commanded, step, line, said}
 
 -- the bench between two commands: its sensor, the input that is left, the text so far, and whether it has stopped
 pub record Bench : Type 0 where
@@ -79,27 +80,11 @@ unfolding turn
 turn-at trace s l u h = rw (lt-ltb 0 (length l) h)
 
 -- of a start the image is there; no other command looks at it
-abbrev Seen : Bma150 → Command → List ℕ → List ℕ → Type 0
-Seen s c i j = (step s c i ≡ step s c j) × (number s c i ≡ number s c j)
-
-seen : (s : Bma150) (l m : List ℕ) (c : Command) → decoded l ≡ c → Seen s c (image (l ++ m)) (image l)
-unfolding step number
-seen s l m (Command.Start t) e = let g = image-more l m (image-there l t e) in (rw g, rw g)
-seen s l m (Command.Accelerations t x y z) e = (refl, refl)
-seen s l m (Command.Temperature x) e = (refl, refl)
-seen s l m (Command.Supply t rail) e = (refl, refl)
-seen s l m (Command.Due t) e = (refl, refl)
-seen s l m (Command.Select on) e = (refl, refl)
-seen s l m (Command.Rising t mosi) e = (refl, refl)
-seen s l m (Command.Falling t) e = (refl, refl)
-seen s l m (Command.Pins t before after) e = (refl, refl)
-seen s l m (Command.StoredImage t) e = (refl, refl)
-seen s l m (Command.View address) e = (refl, refl)
-seen s l m Command.Bad e = (refl, refl)
-
-said-seen : (trace : Bool) (b : ℕ) (s : Bma150) (c : Command) (i j : List ℕ) → Seen s c i j → said trace b s c i ≡ said trace b s c j
-unfolding said
-said-seen trace b s c i j e = ap (λ (t : Bma150). line trace b (number s c i) t (extra s c)) (e .0) ∙ ap (λ (n : ℕ). line trace b n (step s c j) (extra s c)) (e .1)
+seen : (s : Bma150) (l m : List ℕ) (c : Command) → decoded l ≡ c → commanded s c (image (l ++ m)) ≡ commanded s c (image l)
+unfolding commanded
+seen s l m (Command.Start t) e = rw (image-more l m (image-there l t e))
+seen s l m (Command.Host c) e = refl
+seen s l m Command.Bad e = refl
 
 -- a command that what follows does not alter
 pub one : (trace : Bool) (s : Bma150) (l m : List ℕ) → 0 < length l → decoded (l ++ m) ≡ decoded l
@@ -111,7 +96,8 @@ one trace s l m h e =
     record {
       turns = 1;
       leads = λ u. turn-at trace s (l ++ m) u h2
-          ∙ rw (e, List·getD-append l m 0 0 h, drop-append-le (size (decoded l)) l m (size-fits l h), said-seen trace (getD l 0 0) s (decoded l) (image (l ++ m)) (image l) g, g .0);
+          ∙ rw (e, List·getD-append l m 0 0 h, drop-append-le (size (decoded l)) l m (size-fits l h))
+          (ap (λ (k : Called). bench (k .sensor) (drop (size (decoded l)) l ++ m) (u ++ line trace (getD l 0 0) k) (is-bad (decoded l))) g);
     }
 
 -- a command takes a byte at least, and no more than what is there

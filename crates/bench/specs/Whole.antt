@@ -12,7 +12,7 @@ use Rattle.commands.specs.declared.Command.{Command}
 use Rattle.commands.specs.declared.Command.the-variants as Command
 use Rattle.commands.specs.Decode.{decoded, image, size, is-bad}
 use Rattle.commands.specs.More.{decoded-good, unknown}
-use Rattle.bma150.specs.declared.types.Bma150.{Bma150}
+use Rattle.bma150.specs.declared.host.Bma150.{Bma150}
 use Rattle.bench.specs.Line.{step, said}
 use Rattle.bench.specs.Run.{Bench, bench, done, turn, iter, whole, Goes, stay, and-then, one, turn-at}
 use Rattle.bench.specs.Block.{settle, turn-falls, stopped-turn, block, block-goes, Follows}

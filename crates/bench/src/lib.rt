@@ -7,7 +7,7 @@ ghost use Rattle.bench.specs.Run.{Bench};
 ghost use Rattle.bench.specs.Block as B;
 use crate::lines::write_line;
 use crate::steps::serve;
-use bma150::types::Bma150;
+use bma150::host::Bma150;
 use commands::decode;
 use commands::is_bad;
 use commands::size;

@@ -2,10 +2,10 @@
 ghost use mathlib.Core.Path.{_≡_};
 ghost use mathlib.Core.List.{[], _∷_};
 ghost use Prim.Native.Nat.{_+_, _≤_};
-ghost use lib.Dec.{eqb};
 ghost use Rattle.deadlines.specs.Deadlines.{moment};
-ghost use Rattle.refusals.specs.Table as R;
-ghost use Rattle.bma150.specs.Calls as K;
+ghost use Rattle.calls.specs.Table as R;
+ghost use Rattle.bma150.specs.Values as Vals;
+ghost use Rattle.bma150.specs.Called as K;
 ghost use Rattle.bench.specs.Put.{Put};
 ghost use Rattle.bench.specs.Text as T;
 ghost use Rattle.bench.specs.Line as L;
@@ -15,14 +15,14 @@ use crate::text::put_hex16;
 use crate::text::put_hexes;
 use crate::text::put_word;
 use crate::types::Extra;
-use crate::types::Served;
-use bma150::types::Bma150;
-use bma150::types::Report;
-use bma150::types::View;
+use crate::types::Reply;
+use bma150::host::Bma150;
+use calls::types::Outcome;
+use calls::types::Refusal;
 use deadlines::Deadline;
-use refusals::types::Outcome;
-use refusals::types::Refusal;
+use sensor::types::View;
 use spi::types::Drive;
+use waits::types::Report;
 
 fn put_refusal(out: &mut [u8; 65536], o: usize, why: Refusal) -> usize
     requires { ⌜ o + 12 ≤ 65536 ⌝ }
@@ -61,7 +61,7 @@ fn bit(b: bool) -> u8
 }
 
 fn letter(d: Drive) -> u8
-    ensures { λ r. ⌜ r ≡ K.drive-letter d ⌝ }
+    ensures { λ r. ⌜ r ≡ Vals.drive-letter d ⌝ }
 {
     match d {
         Drive::Floating => b'F',
@@ -89,7 +89,7 @@ fn put_pins(out: &mut [u8; 65536], o: usize, s: Bma150) -> usize
 
 fn put_view(out: &mut [u8; 65536], o: usize, v: View) -> usize
     requires { ⌜ o + 3 ≤ 65536 ⌝ }
-    ensures { λ r. ⌜ Put (now (out .entry)) o (T.view-text (K.view-value v)) (now (out .exit)) r ⌝ }
+    ensures { λ r. ⌜ Put (now (out .entry)) o (T.view-text (Vals.view-value v)) (now (out .exit)) r ⌝ }
     ensures { λ r. ⌜ r ≤ o + 3 ⌝ }
 {
     match v {
@@ -115,7 +115,7 @@ fn put_stored(out: &mut [u8; 65536], o: usize, a: u8, v: u8) -> usize
 
 fn put_report(out: &mut [u8; 65536], o: usize, w: Report) -> usize
     requires { ⌜ o + 8 ≤ 65536 ⌝ }
-    ensures { λ r. ⌜ Put (now (out .entry)) o (T.report-text (K.report-values w)) (now (out .exit)) r ⌝ }
+    ensures { λ r. ⌜ Put (now (out .entry)) o (T.report-text (Vals.report-values w)) (now (out .exit)) r ⌝ }
     ensures { λ r. ⌜ r ≤ o + 8 ⌝ }
 {
     match w {
@@ -133,7 +133,7 @@ fn put_report(out: &mut [u8; 65536], o: usize, w: Report) -> usize
 
 fn put_extra(out: &mut [u8; 65536], o: usize, x: Extra, image: &[u8; 19]) -> usize
     requires { ⌜ o + 39 ≤ 65536 ⌝ }
-    ensures { λ r. ⌜ Put (now (out .entry)) o (L.extra-text x (now (image .entry))) (now (out .exit)) r ⌝ }
+    ensures { λ r. ⌜ Put (now (out .entry)) o (L.added-text (L.extra-adds x (now (image .entry)))) (now (out .exit)) r ⌝ }
     ensures { λ r. ⌜ r ≤ o + 39 ⌝ }
 {
     match x {
@@ -145,42 +145,6 @@ fn put_extra(out: &mut [u8; 65536], o: usize, x: Extra, image: &[u8; 19]) -> usi
             put_hexes(out, p, image)
         }
     }
-}
-
-fn refused(why: Refusal) -> bool
-    ensures { λ r. ⌜ r ≡ eqb (R.refusal-number why) 0 ⌝ }
-{
-    match why {
-        Refusal::ImageLength => false,
-        Refusal::AxisRange => false,
-        Refusal::TimeLimit => false,
-        Refusal::TimeBack => false,
-        Refusal::DueFirst => false,
-        Refusal::NotDue => false,
-        Refusal::Command => false,
-    }
-}
-
-// Whether the number of an outcome is 0.
-pub(crate) fn accepted(outcome: Outcome) -> bool
-    ensures { λ r. ⌜ r ≡ eqb (R.number outcome) 0 ⌝ }
-{
-    match outcome {
-        Outcome::Accepted => true,
-        Outcome::Refused(why) => refused(why),
-    }
-}
-
-// What an accepted command adds; a refused one adds nothing.
-fn put_added(out: &mut [u8; 65536], o: usize, outcome: Outcome, x: Extra, image: &[u8; 19]) -> usize
-    requires { ⌜ o + 39 ≤ 65536 ⌝ }
-    ensures { λ r. ⌜ Put (now (out .entry)) o (L.added (R.number outcome) (L.extra-text x (now (image .entry)))) (now (out .exit)) r ⌝ }
-    ensures { λ r. ⌜ r ≤ o + 39 ⌝ }
-{
-    if accepted(outcome) {
-        return put_extra(out, o, x, image);
-    }
-    o
 }
 
 fn put_moment(out: &mut [u8; 65536], o: usize, d: Deadline) -> usize
@@ -210,9 +174,9 @@ fn put_due(out: &mut [u8; 65536], o: usize, trace: bool, s: Bma150) -> usize
     o
 }
 
-pub(crate) fn write_line(out: &mut [u8; 65536], o: usize, trace: bool, b: u8, r: Served) -> usize
+pub(crate) fn write_line(out: &mut [u8; 65536], o: usize, trace: bool, b: u8, r: Reply) -> usize
     requires { ⌜ o + 128 ≤ 65536 ⌝ }
-    ensures { λ n. ⌜ Put (now (out .entry)) o (L.line trace b (R.number (r .outcome)) (r .sensor) (L.extra-text (r .extra) (r .image))) (now (out .exit)) n ⌝ }
+    ensures { λ n. ⌜ Put (now (out .entry)) o (L.line trace b (L.replied r)) (now (out .exit)) n ⌝ }
     ensures { λ n. ⌜ n ≤ o + 128 ⌝ }
 {
     let s = r.sensor;
@@ -223,7 +187,7 @@ pub(crate) fn write_line(out: &mut [u8; 65536], o: usize, trace: bool, b: u8, r:
     let p2 = put(out, p1, b' ');
     let p3 = put_outcome(out, p2, outcome);
     let p4 = put_pins(out, p3, s);
-    let p5 = put_added(out, p4, outcome, x, &image);
+    let p5 = put_extra(out, p4, x, &image);
     let p6 = put_due(out, p5, trace, s);
     put(out, p6, b'\n')
 }

@@ -1,8 +1,8 @@
 // What a command leaves and answers, before it is written.
-use bma150::types::Bma150;
-use bma150::types::Report;
-use bma150::types::View;
-use refusals::types::Outcome;
+use bma150::host::Bma150;
+use calls::types::Outcome;
+use sensor::types::View;
+use waits::types::Report;
 
 // What a command adds to its line. An image stands beside it.
 pub enum Extra {
@@ -12,7 +12,7 @@ pub enum Extra {
     Image,
 }
 
-pub struct Served {
+pub struct Reply {
     pub sensor: Bma150,
     pub outcome: Outcome,
     pub extra: Extra,

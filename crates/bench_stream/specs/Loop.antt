@@ -6,9 +6,9 @@ use Prim.Native.Nat.{ℕ, _+_, _-_, _≤_}
 use native.Mathlib.Omega.{arith}
 use lib.ListN.{length, take, drop, length-take, length-drop}
 use lib.Seq.{take-add, drop-drop, drop-at, length-take-le}
-use Rattle.bma150.specs.declared.types.Bma150.{Bma150}
-use Rattle.bma150.specs.Calls.{after-start}
-use Rattle.bma150.specs.Image.{stock}
+use Rattle.bma150.specs.declared.host.Bma150.{Bma150}
+use Rattle.bma150.specs.Called.{after-start}
+use Rattle.sensor.specs.Image.{stock}
 use Rattle.bench.specs.declared.Ran.{Ran}
 use Rattle.bench.specs.Put.{Put, text}
 use Rattle.bench.specs.Block.{block, answer}

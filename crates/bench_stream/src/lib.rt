@@ -6,8 +6,8 @@ ghost use lib.ListN.{length, take, drop};
 ghost use Rattle.bench.specs.Put.{Put};
 ghost use Rattle.bench_stream.specs.Loop as S;
 use bench::run;
-use bma150::image::stock;
-use bma150::types::Bma150;
+use bma150::host::Bma150;
+use sensor::image::stock;
 use time::Time;
 
 // Between two blocks: the bytes from `at` to `have` are yet to be read; `over`: no more come; `stop`: refusal 7 was met.

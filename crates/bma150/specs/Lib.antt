@@ -1,12 +1,4 @@
-pub mod Record
-pub mod Image
-pub mod Control
-pub mod Writes
-pub mod Samples
-pub mod Bytes
-pub mod Serial
-pub mod Supply
-pub mod Due
-pub mod Calls
-pub mod Lent
 pub mod Values
+pub mod Called
+pub mod Lent
+pub mod Theorems

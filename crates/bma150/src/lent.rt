@@ -1,12 +1,12 @@
 // The due call and the pin call over one lent sensor, altered where the host keeps it.
 ghost use mathlib.Core.Path.{_≡_};
 ghost use Rattle.bma150.specs.Lent.{DueLent, PinsLent};
+use crate::host::Bma150;
 use crate::types::Answered;
-use crate::types::Bma150;
 use crate::types::Replied;
 use crate::types::Reported;
+use calls::types::Outcome;
 use i2c::types::Levels;
-use refusals::types::Outcome;
 use time::Time;
 
 fn sensor_of(r: Reported) -> Bma150

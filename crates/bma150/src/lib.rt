@@ -1,13 +1,4 @@
-// The BMA150 sensor (devices/bma150.rs, bma150/control.rs, and what bma150/i2c.rs does to the sensor).
-mod bytes;
-mod calls;
-mod due;
-pub mod image;
+// The BMA150 sensor as a host meets it: its calls, each refused or served, by value and lent.
+pub mod host;
 pub mod lent;
-mod mode;
-mod parts;
-mod samples;
-mod serial;
-mod supply;
 pub mod types;
-mod writes;

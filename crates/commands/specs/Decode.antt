@@ -7,6 +7,10 @@ use lib.IntN.{ℤ, pos, negsuc}
 use lib.ListN.{length, take, drop, getD}
 use Rattle.time.specs.declared.Time.{Time}
 use Rattle.i2c.specs.declared.types.Levels.{Levels}
+use Rattle.calls.specs.declared.types.Timed.{Timed}
+use Rattle.calls.specs.declared.types.Timed.the-variants as Timed
+use Rattle.calls.specs.declared.types.Call.{Call}
+use Rattle.calls.specs.declared.types.Call.the-variants as Call
 use Rattle.commands.specs.declared.Command.{Command}
 use Rattle.commands.specs.declared.Command.the-variants as Command
 
@@ -50,6 +54,10 @@ bit b weight = eqb (b / weight % 2) 1
 abbrev pub levels : ℕ → ℕ → ℕ → Levels
 levels b scl sda = record { scl = bit b scl; sda = bit b sda }
 
+-- the command of a timed call, T at its byte 1
+abbrev pub timed : List ℕ → Timed → Command
+timed l t = Command.Host (Call.At (moment-at 1 l) t)
+
 -- the command, where its n bytes are there
 abbrev pub within : ℕ → List ℕ → Command → Command
 within n l c = cond (ltb (length l) n) Command.Bad c
@@ -70,52 +78,53 @@ image l = part 13 19 l
 
 -- 02 accelerations T, three signed 4-byte numbers
 unfoldable pub accelerations : List ℕ → Command
-accelerations l = within 25 l (Command.Accelerations (moment-at 1 l) (signed-at 13 l) (signed-at 17 l) (signed-at 21 l))
+accelerations l = within 25 l (timed l (Timed.Accelerations (signed-at 13 l) (signed-at 17 l) (signed-at 21 l)))
 
 -- 03 temperature, signed 4 bytes
 unfoldable pub temperature : List ℕ → Command
-temperature l = within 5 l (Command.Temperature (signed-at 1 l))
+temperature l = within 5 l (Command.Host (Call.Temperature (signed-at 1 l)))
 
 -- 04 supply T, 2 bytes
 unfoldable pub supply : List ℕ → Command
-supply l = within 15 l (Command.Supply (moment-at 1 l) (number-at 13 2 l))
+supply l = within 15 l (timed l (Timed.Supply (number-at 13 2 l)))
 
 -- 05 due T
 unfoldable pub due : List ℕ → Command
-due l = within 13 l (Command.Due (moment-at 1 l))
+due l = within 13 l (timed l Timed.Due)
 
 -- 06 select, 0 or 1
 unfoldable pub select : List ℕ → Command
-select l = within 2 l (either-of (byte-at 1 l) (Command.Select false) (Command.Select true))
+select l = within 2 l (either-of (byte-at 1 l) (Command.Host (Call.Select false)) (Command.Host (Call.Select true)))
 
 -- 07 rising T, data 0 or 1
 unfoldable pub rising : List ℕ → Command
-rising l = within 14 l (either-of (byte-at 13 l) (Command.Rising (moment-at 1 l) false) (Command.Rising (moment-at 1 l) true))
+rising l = within 14 l (either-of (byte-at 13 l) (timed l (Timed.Rising false)) (timed l (Timed.Rising true)))
 
 -- 08 falling T
 unfoldable pub falling : List ℕ → Command
-falling l = within 13 l (Command.Falling (moment-at 1 l))
+falling l = within 13 l (timed l Timed.Falling)
 
 -- a byte 0..15: bits 3 and 2 the clock and data before, 1 and 0 after
-abbrev pub lines : Time → ℕ → Command
-lines t b = cond (ltb 15 b) Command.Bad (Command.Pins t (levels b 8 4) (levels b 2 1))
+abbrev pub lines : List ℕ → ℕ → Command
+lines l b = cond (ltb 15 b) Command.Bad (timed l (Timed.Pins (levels b 8 4) (levels b 2 1)))
 
 -- 09 pins T, a byte 0..15
 unfoldable pub pins : List ℕ → Command
-pins l = within 14 l (lines (moment-at 1 l) (byte-at 13 l))
+pins l = within 14 l (lines l (byte-at 13 l))
 
--- 0a stored image T
+-- 0a stored image T; the bench program's buffer has 19 bytes
 unfoldable pub stored-image : List ℕ → Command
-stored-image l = within 13 l (Command.StoredImage (moment-at 1 l))
+stored-image l = within 13 l (Command.Host (Call.StoredImage (moment-at 1 l) 19))
 
 -- 0b view, address
 unfoldable pub view : List ℕ → Command
-view l = within 2 l (Command.View (byte-at 1 l))
+view l = within 2 l (Command.Host (Call.View (byte-at 1 l)))
 
 -- ---- which command the byte c begins; an unknown byte is a bad command (refusal 7)
 
-unfoldable pub serial : ℕ → List ℕ → Command
-serial c l =
+-- 06 to 0b
+unfoldable pub decode-06-to-0b : ℕ → List ℕ → Command
+decode-06-to-0b c l =
     cond (eqb c 0x06) (select l)
     (cond (eqb c 0x07) (rising l)
     (cond (eqb c 0x08) (falling l)
@@ -124,45 +133,45 @@ serial c l =
     (cond (eqb c 0x0b) (view l)
     Command.Bad)))))
 
-unfoldable pub named : ℕ → List ℕ → Command
-named c l =
+-- 01 to 05; another byte goes to the definition above
+unfoldable pub decode-01-to-05 : ℕ → List ℕ → Command
+decode-01-to-05 c l =
     cond (eqb c 0x01) (start l)
     (cond (eqb c 0x02) (accelerations l)
     (cond (eqb c 0x03) (temperature l)
     (cond (eqb c 0x04) (supply l)
     (cond (eqb c 0x05) (due l)
-    (serial c l)))))
+    (decode-06-to-0b c l)))))
 
 -- the command at the head of the input; none where nothing is left
 unfoldable pub decoded : List ℕ → Command
-decoded l = cond (ltb 0 (length l)) (named (byte-at 0 l) l) Command.Bad
+decoded l = cond (ltb 0 (length l)) (decode-01-to-05 (byte-at 0 l) l) Command.Bad
+
+-- how many bytes the command of a timed call is: its byte, T and the operands
+unfoldable pub timed-size : Timed → ℕ
+timed-size (Timed.Accelerations x y z) = 25
+timed-size (Timed.Supply rail) = 15
+timed-size Timed.Due = 13
+timed-size (Timed.Rising mosi) = 14
+timed-size Timed.Falling = 13
+timed-size (Timed.Pins before after) = 14
+
+-- how many bytes the command of a call is
+unfoldable pub call-size : Call → ℕ
+call-size (Call.At t what) = timed-size what
+call-size (Call.Temperature x) = 5
+call-size (Call.Select on) = 2
+call-size (Call.View address) = 2
+call-size (Call.StoredImage t n) = 13
 
 -- how many bytes a command is; a bad one takes its first
 unfoldable pub size : Command → ℕ
 size (Command.Start t) = 32
-size (Command.Accelerations t x y z) = 25
-size (Command.Temperature t) = 5
-size (Command.Supply t rail) = 15
-size (Command.Due t) = 13
-size (Command.Select on) = 2
-size (Command.Rising t mosi) = 14
-size (Command.Falling t) = 13
-size (Command.Pins t before after) = 14
-size (Command.StoredImage t) = 13
-size (Command.View address) = 2
+size (Command.Host c) = call-size c
 size Command.Bad = 1
 
 -- refusal 7
 unfoldable pub is-bad : Command → Bool
 is-bad (Command.Start t) = false
-is-bad (Command.Accelerations t x y z) = false
-is-bad (Command.Temperature t) = false
-is-bad (Command.Supply t rail) = false
-is-bad (Command.Due t) = false
-is-bad (Command.Select on) = false
-is-bad (Command.Rising t mosi) = false
-is-bad (Command.Falling t) = false
-is-bad (Command.Pins t before after) = false
-is-bad (Command.StoredImage t) = false
-is-bad (Command.View address) = false
+is-bad (Command.Host c) = false
 is-bad Command.Bad = true

@@ -10,9 +10,13 @@ use lib.Dec.{ltb, eqb}
 use lib.ListN.{length, take, drop, length-drop, length-append, List·getD-append}
 use lib.Seq.{drop-append-le, take-append-le}
 use Rattle.time.specs.declared.Time.{Time}
+use Rattle.calls.specs.declared.types.Timed.{Timed}
+use Rattle.calls.specs.declared.types.Timed.the-variants as Timed
+use Rattle.calls.specs.declared.types.Call.{Call}
+use Rattle.calls.specs.declared.types.Call.the-variants as Call
 use Rattle.commands.specs.declared.Command.{Command}
 use Rattle.commands.specs.declared.Command.the-variants as Command
-use Rattle.commands.specs.Decode.{part, big, number-at, moment-at, signed-at, byte-at, within, either-of, lines, start, image, accelerations, temperature, supply, due, select, rising, falling, pins, stored-image, view, serial, named, decoded, size, is-bad}
+use Rattle.commands.specs.Decode.{part, big, number-at, moment-at, signed-at, byte-at, within, either-of, lines, start, image, accelerations, temperature, supply, due, select, rising, falling, pins, stored-image, view, decode-06-to-0b, decode-01-to-05, decoded, timed, timed-size, call-size, size, is-bad}
 
 -- ---- what follows does not alter the command at the head
 
@@ -116,9 +120,9 @@ module _ (l m : List ℕ) where
   pick true a b c d p q g = p g
   pick false a b c d p q g = q g
 
-  serial-same : (c : ℕ) → Has l (serial c l) → serial c (l ++ m) ≡ serial c l
-  unfolding serial
-  serial-same c =
+  decode-06-to-0b-same : (c : ℕ) → Has l (decode-06-to-0b c l) → decode-06-to-0b c (l ++ m) ≡ decode-06-to-0b c l
+  unfolding decode-06-to-0b
+  decode-06-to-0b-same c =
       pick (eqb c 6) _ _ _ _ select-same
       (pick (eqb c 7) _ _ _ _ rising-same
       (pick (eqb c 8) _ _ _ _ falling-same
@@ -126,20 +130,20 @@ module _ (l m : List ℕ) where
       (pick (eqb c 10) _ _ _ _ stored-image-same
       (pick (eqb c 11) _ _ _ _ view-same (λ g. refl))))))
 
-  named-same : (c : ℕ) → Has l (named c l) → named c (l ++ m) ≡ named c l
-  unfolding named
-  named-same c =
+  decode-01-to-05-same : (c : ℕ) → Has l (decode-01-to-05 c l) → decode-01-to-05 c (l ++ m) ≡ decode-01-to-05 c l
+  unfolding decode-01-to-05
+  decode-01-to-05-same c =
       pick (eqb c 1) _ _ _ _ start-same
       (pick (eqb c 2) _ _ _ _ accelerations-same
       (pick (eqb c 3) _ _ _ _ temperature-same
       (pick (eqb c 4) _ _ _ _ supply-same
-      (pick (eqb c 5) _ _ _ _ due-same (serial-same c)))))
+      (pick (eqb c 5) _ _ _ _ due-same (decode-06-to-0b-same c)))))
 
-  decoded-same : 0 < length l → Has l (named (byte-at 0 l) l) → decoded (l ++ m) ≡ decoded l
+  decoded-same : 0 < length l → Has l (decode-01-to-05 (byte-at 0 l) l) → decoded (l ++ m) ≡ decoded l
   unfolding decoded
   decoded-same h g =
       let p : 0 < length (l ++ m) = simp length-append (omega arith) in
-      rw (lt-ltb 0 (length (l ++ m)) p, lt-ltb 0 (length l) h, b-same 0 h) (named-same (byte-at 0 l) g)
+      rw (lt-ltb 0 (length (l ++ m)) p, lt-ltb 0 (length l) h, b-same 0 h) (decode-01-to-05-same (byte-at 0 l) g)
 
   -- the longest command has 32 bytes
   pub decoded-more : 32 ≤ length l → decoded (l ++ m) ≡ decoded l
@@ -155,19 +159,27 @@ module _ (l m : List ℕ) where
 
 -- ---- every command takes a byte at least
 
+timed-size-pos : (t : Timed) → 1 ≤ timed-size t
+unfolding timed-size
+timed-size-pos (Timed.Accelerations x y z) = omega arith
+timed-size-pos (Timed.Supply rail) = omega arith
+timed-size-pos Timed.Due = omega arith
+timed-size-pos (Timed.Rising mosi) = omega arith
+timed-size-pos Timed.Falling = omega arith
+timed-size-pos (Timed.Pins before after) = omega arith
+
+call-size-pos : (c : Call) → 1 ≤ call-size c
+unfolding call-size
+call-size-pos (Call.At t what) = timed-size-pos what
+call-size-pos (Call.Temperature x) = omega arith
+call-size-pos (Call.Select on) = omega arith
+call-size-pos (Call.View address) = omega arith
+call-size-pos (Call.StoredImage t n) = omega arith
+
 pub size-pos : (c : Command) → 1 ≤ size c
 unfolding size
 size-pos (Command.Start t) = omega arith
-size-pos (Command.Accelerations t x y z) = omega arith
-size-pos (Command.Temperature t) = omega arith
-size-pos (Command.Supply t rail) = omega arith
-size-pos (Command.Due t) = omega arith
-size-pos (Command.Select on) = omega arith
-size-pos (Command.Rising t mosi) = omega arith
-size-pos (Command.Falling t) = omega arith
-size-pos (Command.Pins t before after) = omega arith
-size-pos (Command.StoredImage t) = omega arith
-size-pos (Command.View address) = omega arith
+size-pos (Command.Host c) = call-size-pos c
 size-pos Command.Bad = omega arith
 
 -- ---- a command is no longer than what is there
@@ -193,19 +205,19 @@ module _ (l : List ℕ) (some : 0 < length l) where
   start-fits = in-fits 32 _ (omega arith)
 
   accelerations-fits : size (accelerations l) ≤ length l
-  unfolding accelerations size
+  unfolding accelerations size call-size timed-size
   accelerations-fits = in-fits 25 _ (omega arith)
 
   temperature-fits : size (temperature l) ≤ length l
-  unfolding temperature size
+  unfolding temperature size call-size
   temperature-fits = in-fits 5 _ (omega arith)
 
   supply-fits : size (supply l) ≤ length l
-  unfolding supply size
+  unfolding supply size call-size timed-size
   supply-fits = in-fits 15 _ (omega arith)
 
   due-fits : size (due l) ≤ length l
-  unfolding due size
+  unfolding due size call-size timed-size
   due-fits = in-fits 13 _ (omega arith)
 
   either-small : (n b : ℕ) (low high : Command) → 1 ≤ n → size low ≤ n → size high ≤ n → size (either-of b low high) ≤ n
@@ -213,38 +225,36 @@ module _ (l : List ℕ) (some : 0 < length l) where
   either-small n b low high h p q = either (eqb b 0) low _ p (either (eqb b 1) high Command.Bad q h)
 
   select-fits : size (select l) ≤ length l
-  unfolding select size
-  select-fits = in-fits 2 _ (either-small 2 (byte-at 1 l) (Command.Select false) (Command.Select true) (omega arith) (omega arith) (omega arith))
+  unfolding select size call-size
+  select-fits = in-fits 2 _ (either-small 2 (byte-at 1 l) (Command.Host (Call.Select false)) (Command.Host (Call.Select true)) (omega arith) (omega arith) (omega arith))
 
   rising-fits : size (rising l) ≤ length l
-  unfolding rising size
-  rising-fits =
-      let t : Time = moment-at 1 l in
-      in-fits 14 _ (either-small 14 (byte-at 13 l) (Command.Rising t false) (Command.Rising t true) (omega arith) (omega arith) (omega arith))
+  unfolding rising size call-size timed-size
+  rising-fits = in-fits 14 _ (either-small 14 (byte-at 13 l) (timed l (Timed.Rising false)) (timed l (Timed.Rising true)) (omega arith) (omega arith) (omega arith))
 
   falling-fits : size (falling l) ≤ length l
-  unfolding falling size
+  unfolding falling size call-size timed-size
   falling-fits = in-fits 13 _ (omega arith)
 
-  lines-small : (t : Time) (b : ℕ) → size (lines t b) ≤ 14
-  unfolding size
-  lines-small t b = either (ltb 15 b) Command.Bad _ (omega arith) (omega arith)
+  lines-small : (b : ℕ) → size (lines l b) ≤ 14
+  unfolding size call-size timed-size
+  lines-small b = either (ltb 15 b) Command.Bad _ (omega arith) (omega arith)
 
   pins-fits : size (pins l) ≤ length l
   unfolding pins
-  pins-fits = in-fits 14 _ (lines-small (moment-at 1 l) (byte-at 13 l))
+  pins-fits = in-fits 14 _ (lines-small (byte-at 13 l))
 
   stored-image-fits : size (stored-image l) ≤ length l
-  unfolding stored-image size
+  unfolding stored-image size call-size
   stored-image-fits = in-fits 13 _ (omega arith)
 
   view-fits : size (view l) ≤ length l
-  unfolding view size
+  unfolding view size call-size
   view-fits = in-fits 2 _ (omega arith)
 
-  serial-fits : (c : ℕ) → size (serial c l) ≤ length l
-  unfolding serial
-  serial-fits c =
+  decode-06-to-0b-fits : (c : ℕ) → size (decode-06-to-0b c l) ≤ length l
+  unfolding decode-06-to-0b
+  decode-06-to-0b-fits c =
       either (eqb c 6) _ _ select-fits
       (either (eqb c 7) _ _ rising-fits
       (either (eqb c 8) _ _ falling-fits
@@ -252,18 +262,18 @@ module _ (l : List ℕ) (some : 0 < length l) where
       (either (eqb c 10) _ _ stored-image-fits
       (either (eqb c 11) _ _ view-fits bad-fits)))))
 
-  named-fits : (c : ℕ) → size (named c l) ≤ length l
-  unfolding named
-  named-fits c =
+  decode-01-to-05-fits : (c : ℕ) → size (decode-01-to-05 c l) ≤ length l
+  unfolding decode-01-to-05
+  decode-01-to-05-fits c =
       either (eqb c 1) _ _ start-fits
       (either (eqb c 2) _ _ accelerations-fits
       (either (eqb c 3) _ _ temperature-fits
       (either (eqb c 4) _ _ supply-fits
-      (either (eqb c 5) _ _ due-fits (serial-fits c)))))
+      (either (eqb c 5) _ _ due-fits (decode-06-to-0b-fits c)))))
 
   pub size-fits : size (decoded l) ≤ length l
   unfolding decoded
-  size-fits = either (ltb 0 (length l)) _ _ (named-fits (byte-at 0 l)) bad-fits
+  size-fits = either (ltb 0 (length l)) _ _ (decode-01-to-05-fits (byte-at 0 l)) bad-fits
 
 -- a start has its image
 bad-start : (t : Time) → Command.Bad ≡ Command.Start t → ⊥
@@ -283,7 +293,7 @@ image-there l t e = started-fits l t (ltb 0 (length l)) refl e
 -- ---- an unknown byte is a bad command, whatever follows
 
 pub unknown : (b : ℕ) (m : List ℕ) → 11 < b → decoded (b ∷ m) ≡ Command.Bad
-unfolding decoded named serial
+unfolding decoded decode-01-to-05 decode-06-to-0b
 unknown b m h =
     let other : (k : ℕ) → k ≤ 11 → eqb b k ≡ false = λ k g. ne-eqb b k (λ (e : b ≡ k). omega arith) in
     let some : 0 < length (b ∷ m) = omega arith in

@@ -3,22 +3,15 @@ ghost use mathlib.Core.Path.{_≡_};
 ghost use Prim.Native.Nat.{_+_, _≤_, _<_, _^_};
 ghost use lib.ListN.{length, drop};
 ghost use Rattle.commands.specs.Decode as D;
+use calls::types::Call;
+use calls::types::Timed;
 use i2c::types::Levels;
 use time::Time;
 
-// A command and its operands. A start's image stays in the input.
+// A start, whose image stays in the input; a call of the host; or no command of the list.
 pub enum Command {
     Start(Time),
-    Accelerations(Time, i32, i32, i32),
-    Temperature(i32),
-    Supply(Time, u16),
-    Due(Time),
-    Select(bool),
-    Rising(Time, bool),
-    Falling(Time),
-    Pins(Time, Levels, Levels),
-    StoredImage(Time),
-    View(u8),
+    Host(Call),
     Bad,
 }
 
@@ -103,7 +96,7 @@ fn accelerations(input: &[u8], at: usize) -> Command
     let x = number(input, at + 13, 4);
     let y = number(input, at + 17, 4);
     let z = number(input, at + 21, 4);
-    Command::Accelerations(t, signed(x), signed(y), signed(z))
+    Command::Host(Call::At(t, Timed::Accelerations(signed(x), signed(y), signed(z))))
 }
 
 fn temperature(input: &[u8], at: usize) -> Command
@@ -114,7 +107,7 @@ fn temperature(input: &[u8], at: usize) -> Command
         return Command::Bad;
     }
     let x = number(input, at + 1, 4);
-    Command::Temperature(signed(x))
+    Command::Host(Call::Temperature(signed(x)))
 }
 
 fn supply(input: &[u8], at: usize) -> Command
@@ -126,7 +119,7 @@ fn supply(input: &[u8], at: usize) -> Command
     }
     let t = moment(input, at + 1);
     let rail = number(input, at + 13, 2);
-    Command::Supply(t, rail as u16)
+    Command::Host(Call::At(t, Timed::Supply(rail as u16)))
 }
 
 fn due(input: &[u8], at: usize) -> Command
@@ -137,7 +130,7 @@ fn due(input: &[u8], at: usize) -> Command
         return Command::Bad;
     }
     let t = moment(input, at + 1);
-    Command::Due(t)
+    Command::Host(Call::At(t, Timed::Due))
 }
 
 fn select(input: &[u8], at: usize) -> Command
@@ -149,10 +142,10 @@ fn select(input: &[u8], at: usize) -> Command
     }
     let b = input[at + 1];
     if b == 0 {
-        return Command::Select(false);
+        return Command::Host(Call::Select(false));
     }
     if b == 1 {
-        return Command::Select(true);
+        return Command::Host(Call::Select(true));
     }
     Command::Bad
 }
@@ -167,10 +160,10 @@ fn rising(input: &[u8], at: usize) -> Command
     let t = moment(input, at + 1);
     let b = input[at + 13];
     if b == 0 {
-        return Command::Rising(t, false);
+        return Command::Host(Call::At(t, Timed::Rising(false)));
     }
     if b == 1 {
-        return Command::Rising(t, true);
+        return Command::Host(Call::At(t, Timed::Rising(true)));
     }
     Command::Bad
 }
@@ -183,7 +176,7 @@ fn falling(input: &[u8], at: usize) -> Command
         return Command::Bad;
     }
     let t = moment(input, at + 1);
-    Command::Falling(t)
+    Command::Host(Call::At(t, Timed::Falling))
 }
 
 fn pins(input: &[u8], at: usize) -> Command
@@ -198,7 +191,7 @@ fn pins(input: &[u8], at: usize) -> Command
     if 15 < b {
         return Command::Bad;
     }
-    Command::Pins(t, levels(b, 8, 4), levels(b, 2, 1))
+    Command::Host(Call::At(t, Timed::Pins(levels(b, 8, 4), levels(b, 2, 1))))
 }
 
 fn stored_image(input: &[u8], at: usize) -> Command
@@ -209,7 +202,7 @@ fn stored_image(input: &[u8], at: usize) -> Command
         return Command::Bad;
     }
     let t = moment(input, at + 1);
-    Command::StoredImage(t)
+    Command::Host(Call::StoredImage(t, 19))
 }
 
 fn view(input: &[u8], at: usize) -> Command
@@ -219,13 +212,13 @@ fn view(input: &[u8], at: usize) -> Command
     if input.len() - at < 2 {
         return Command::Bad;
     }
-    Command::View(input[at + 1])
+    Command::Host(Call::View(input[at + 1]))
 }
 
 // Commands 06 to 0b.
-fn serial(c: u8, input: &[u8], at: usize) -> Command
+fn decode_06_to_0b(c: u8, input: &[u8], at: usize) -> Command
     requires { ⌜ at ≤ length (now input) ⌝ }
-    ensures { λ r. ⌜ r ≡ D.serial c (drop at (now (input .entry))) ⌝ }
+    ensures { λ r. ⌜ r ≡ D.decode-06-to-0b c (drop at (now (input .entry))) ⌝ }
 {
     if c == 6 {
         return select(input, at);
@@ -248,10 +241,10 @@ fn serial(c: u8, input: &[u8], at: usize) -> Command
     Command::Bad
 }
 
-// Commands 01 to 05, and those.
-fn named(c: u8, input: &[u8], at: usize) -> Command
+// Commands 01 to 05; another byte goes to `decode_06_to_0b`.
+fn decode_01_to_05(c: u8, input: &[u8], at: usize) -> Command
     requires { ⌜ at ≤ length (now input) ⌝ }
-    ensures { λ r. ⌜ r ≡ D.named c (drop at (now (input .entry))) ⌝ }
+    ensures { λ r. ⌜ r ≡ D.decode-01-to-05 c (drop at (now (input .entry))) ⌝ }
 {
     if c == 1 {
         return start(input, at);
@@ -268,7 +261,7 @@ fn named(c: u8, input: &[u8], at: usize) -> Command
     if c == 5 {
         return due(input, at);
     }
-    serial(c, input, at)
+    decode_06_to_0b(c, input, at)
 }
 
 // The command that stands at `at`; beyond the input there is none.
@@ -276,9 +269,36 @@ pub fn decode(input: &[u8], at: usize) -> Command
     ensures { λ r. ⌜ r ≡ D.decoded (drop at (now (input .entry))) ⌝ }
 {
     if at < input.len() {
-        return named(input[at], input, at);
+        return decode_01_to_05(input[at], input, at);
     }
     Command::Bad
+}
+
+// How many bytes the command of a timed call is.
+fn timed_size(t: Timed) -> usize
+    ensures { λ r. ⌜ r ≡ D.timed-size t ⌝ }
+{
+    match t {
+        Timed::Accelerations(_, _, _) => 25,
+        Timed::Supply(_) => 15,
+        Timed::Due => 13,
+        Timed::Rising(_) => 14,
+        Timed::Falling => 13,
+        Timed::Pins(_, _) => 14,
+    }
+}
+
+// How many bytes the command of a call is.
+fn call_size(c: Call) -> usize
+    ensures { λ r. ⌜ r ≡ D.call-size c ⌝ }
+{
+    match c {
+        Call::At(_, t) => timed_size(t),
+        Call::Temperature(_) => 5,
+        Call::Select(_) => 2,
+        Call::View(_) => 2,
+        Call::StoredImage(_, _) => 13,
+    }
 }
 
 // How many bytes a command is; a bad one takes its first.
@@ -287,16 +307,7 @@ pub fn size(c: Command) -> usize
 {
     match c {
         Command::Start(_) => 32,
-        Command::Accelerations(_, _, _, _) => 25,
-        Command::Temperature(_) => 5,
-        Command::Supply(_, _) => 15,
-        Command::Due(_) => 13,
-        Command::Select(_) => 2,
-        Command::Rising(_, _) => 14,
-        Command::Falling(_) => 13,
-        Command::Pins(_, _, _) => 14,
-        Command::StoredImage(_) => 13,
-        Command::View(_) => 2,
+        Command::Host(call) => call_size(call),
         Command::Bad => 1,
     }
 }
@@ -307,16 +318,7 @@ pub fn is_bad(c: Command) -> bool
 {
     match c {
         Command::Start(_) => false,
-        Command::Accelerations(_, _, _, _) => false,
-        Command::Temperature(_) => false,
-        Command::Supply(_, _) => false,
-        Command::Due(_) => false,
-        Command::Select(_) => false,
-        Command::Rising(_, _) => false,
-        Command::Falling(_) => false,
-        Command::Pins(_, _, _) => false,
-        Command::StoredImage(_) => false,
-        Command::View(_) => false,
+        Command::Host(_) => false,
         Command::Bad => true,
     }
 }

@@ -1,27 +1,23 @@
 -- Sensors that answer alike print the same text. Assumes nothing.
 use Prim.Native.Nat.{ℕ, zero, suc}
-use mathlib.Core.Path.{_≡_, refl, sym, ap, _∙_}
+use mathlib.Core.Path.{_≡_, refl, ap}
 use mathlib.Core.Bool.{Bool, true, false, cond}
 use mathlib.Core.List.{List, [], _∷_, _++_}
-use mathlib.Core.Option.{Option, none, some, Option·getD}
 use lib.Dec.{eqb, ltb}
 use lib.ListN.{length, getD}
 use Rattle.time.specs.declared.Time.{Time}
-use Rattle.bma150.specs.declared.types.View.{View}
-use Rattle.bma150.specs.declared.types.Bma150.{Bma150}
-use Rattle.bma150.specs.Control.{interrupt}
-use Rattle.bma150.specs.Samples.{interaction-deadline}
-use Rattle.bma150.specs.Serial.{output, data-output}
-use Rattle.bma150.specs.Calls as K
-use Rattle.runs.specs.Calls as C
-use Rattle.runs.specs.Calls.{Call, Answer, answer}
-use Rattle.runs.specs.Lists.{answers}
-use Rattle.runs.proofs.Buffer.{buffer-put}
+use Rattle.calls.specs.declared.types.Call.{Call}
+use Rattle.calls.specs.declared.types.Call.the-variants as Call
+use Rattle.writes.specs.Samples.{interaction-deadline}
+use Rattle.bma150.specs.declared.host.Bma150.{Bma150}
+use Rattle.bma150.specs.Called.{Called, called, start-number, after-start, interrupt, output, data-output}
+use Rattle.bma150.specs.Theorems.Added.{view-leaves}
+use Rattle.runs.specs.Lists as C
+use Rattle.runs.specs.Lists.{Answer, answer, answers}
 use Rattle.runs.proofs.Lists.{claim}
 use Rattle.commands.specs.declared.Command.{Command}
 use Rattle.commands.specs.declared.Command.the-variants as Command
 use Rattle.commands.specs.Decode.{decoded, image}
-use Rattle.bench.specs.Text.{view-text, report-text, image-text}
 use Rattle.bench.specs.Line as L
 use Rattle.bench.specs.Run.{Bench, bench, turn, iter, whole}
 use Rattle.printed.specs.Printed.{Alike, Printed}
@@ -32,7 +28,7 @@ pub record Shows (s t : Bma150) : Type 0 where
   pub interrupt : interrupt s ≡ interrupt t
   pub output : output s ≡ output t
   pub data-output : data-output s ≡ data-output t
-  pub next-due : interaction-deadline s ≡ interaction-deadline t
+  pub next-due : interaction-deadline (s .sensor) ≡ interaction-deadline (t .sensor)
 
 itself : (s : Bma150) → Shows s s
 itself s = record { interrupt = refl; output = refl; data-output = refl; next-due = refl }
@@ -45,9 +41,9 @@ answer-shows s t k e = record {
   next-due = ap (λ (a : Answer). a .next-due) e;
 }
 
-line-alike : (trace : Bool) (b n m : ℕ) (s t : Bma150) (x y : List ℕ) → n ≡ m → Shows s t → x ≡ y → L.line trace b n s x ≡ L.line trace b m t y
+line-alike : (trace : Bool) (b : ℕ) (k l : Called) → k .number ≡ l .number → k .adds ≡ l .adds → Shows (k .sensor) (l .sensor) → L.line trace b k ≡ L.line trace b l
 unfolding L.line L.pins
-line-alike trace b n m s t x y e h f = rw (e, h .interrupt, h .output, h .data-output, h .next-due, f)
+line-alike trace b k l e f h = rw (e, f, h .interrupt, h .output, h .data-output, h .next-due)
 
 -- ---- the head and the tail of equal answers
 
@@ -70,85 +66,37 @@ module _ (s t : Bma150) (alike : Alike s t) where
 
   -- a view leaves the sensor, so its answer shows it
   shown : Shows s t
-  unfolding C.step
-  shown = answer-shows s t (Call.view 0) (answered (Call.view 0))
+  shown =
+      let h : Shows (C.step s (Call.View 0)) (C.step t (Call.View 0)) = answer-shows s t (Call.View 0) (answered (Call.View 0)) in
+      rw (view-leaves s 0, view-leaves t 0) h
 
   -- ---- a command
 
   -- a start: the same new sensor, or the old ones
   module _ (now : Time) (bytes : List ℕ) where
-    started-shows : (x : Bool) → Shows (cond x (K.after-start now bytes) s) (cond x (K.after-start now bytes) t)
-    started-shows true = itself (K.after-start now bytes)
+    started-shows : (x : Bool) → Shows (cond x (after-start now bytes) s) (cond x (after-start now bytes) t)
+    started-shows true = itself (after-start now bytes)
     started-shows false = shown
 
-    started-alike : (x : Bool) → Alike (cond x (K.after-start now bytes) s) (cond x (K.after-start now bytes) t)
+    started-alike : (x : Bool) → Alike (cond x (after-start now bytes) s) (cond x (after-start now bytes) t)
     started-alike true cs = refl
     started-alike false cs = alike cs
 
   step-alike : (c : Command) (bytes : List ℕ) → Alike (L.step s c bytes) (L.step t c bytes)
-  unfolding L.step L.started C.step
-  step-alike (Command.Start now) bytes = started-alike now bytes (eqb (K.start-number now bytes) 0)
-  step-alike (Command.Accelerations now x y z) bytes = stepped (Call.accelerations now x y z)
-  step-alike (Command.Temperature m) bytes = stepped (Call.temperature m)
-  step-alike (Command.Supply now rail) bytes = stepped (Call.supply now rail)
-  step-alike (Command.Due now) bytes = stepped (Call.due now)
-  step-alike (Command.Select on) bytes = stepped (Call.select on)
-  step-alike (Command.Rising now mosi) bytes = stepped (Call.rising now mosi)
-  step-alike (Command.Falling now) bytes = stepped (Call.falling now)
-  step-alike (Command.Pins now before after) bytes = stepped (Call.pins now before after)
-  step-alike (Command.StoredImage now) bytes = alike
-  step-alike (Command.View address) bytes = alike
+  unfolding L.commanded L.started
+  step-alike (Command.Start now) bytes = started-alike now bytes (eqb (start-number now bytes) 0)
+  step-alike (Command.Host c) bytes = stepped c
   step-alike Command.Bad bytes = alike
 
-  -- the number and the report of a call
-  numbered : (k : Call) → C.number s k ≡ C.number t k
-  numbered k = ap (λ (a : Answer). a .number) (answered k)
-
-  reported : (k : Call) → report-text (K.report-values (C.report s k)) ≡ report-text (K.report-values (C.report t k))
-  reported k = ap (λ (a : Answer). report-text (K.report-values (a .report))) (answered k)
-
-  viewed-text : Option View → List ℕ
-  viewed-text none = []
-  viewed-text (some v) = view-text (K.view-value v)
-
-  put-alike : (now : Time) → K.buffer-after s now L.buffer ≡ K.buffer-after t now L.buffer
-  put-alike now =
-      buffer-put s now L.buffer
-      ∙ ap (λ (a : Answer). Option·getD (a .put) L.buffer) (answered (Call.stored-image now 19))
-      ∙ sym (buffer-put t now L.buffer)
-
   said-alike : (trace : Bool) (b : ℕ) (c : Command) (bytes : List ℕ) → L.said trace b s c bytes ≡ L.said trace b t c bytes
-  unfolding L.said L.step L.started L.number L.extra C.step C.number C.report C.viewed viewed-text
-  said-alike trace b (Command.Start now) bytes = line-alike trace b _ _ _ _ [] [] refl (started-shows now bytes (eqb (K.start-number now bytes) 0)) refl
-  said-alike trace b (Command.Accelerations now x y z) bytes =
-      let k = Call.accelerations now x y z in
-      line-alike trace b _ _ _ _ [] [] (numbered k) (answer-shows s t k (answered k)) refl
-  said-alike trace b (Command.Temperature m) bytes =
-      let k = Call.temperature m in
-      line-alike trace b _ _ _ _ [] [] refl (answer-shows s t k (answered k)) refl
-  said-alike trace b (Command.Supply now rail) bytes =
-      let k = Call.supply now rail in
-      line-alike trace b _ _ _ _ _ _ (numbered k) (answer-shows s t k (answered k)) (reported k)
-  said-alike trace b (Command.Due now) bytes =
-      let k = Call.due now in
-      line-alike trace b _ _ _ _ _ _ (numbered k) (answer-shows s t k (answered k)) (reported k)
-  said-alike trace b (Command.Select on) bytes =
-      let k = Call.select on in
-      line-alike trace b _ _ _ _ [] [] refl (answer-shows s t k (answered k)) refl
-  said-alike trace b (Command.Rising now mosi) bytes =
-      let k = Call.rising now mosi in
-      line-alike trace b _ _ _ _ [] [] (numbered k) (answer-shows s t k (answered k)) refl
-  said-alike trace b (Command.Falling now) bytes =
-      let k = Call.falling now in
-      line-alike trace b _ _ _ _ [] [] (numbered k) (answer-shows s t k (answered k)) refl
-  said-alike trace b (Command.Pins now before after) bytes =
-      let k = Call.pins now before after in
-      line-alike trace b _ _ _ _ [] [] (numbered k) (answer-shows s t k (answered k)) refl
-  said-alike trace b (Command.StoredImage now) bytes =
-      line-alike trace b _ _ _ _ _ _ (numbered (Call.stored-image now 19)) shown (ap image-text (put-alike now))
-  said-alike trace b (Command.View address) bytes =
-      line-alike trace b _ _ _ _ _ _ refl shown (ap (λ (a : Answer). viewed-text (a .viewed)) (answered (Call.view address)))
-  said-alike trace b Command.Bad bytes = line-alike trace b _ _ _ _ [] [] refl shown refl
+  unfolding L.commanded L.started
+  said-alike trace b (Command.Start now) bytes = line-alike trace b _ _ refl refl (started-shows now bytes (eqb (start-number now bytes) 0))
+  said-alike trace b (Command.Host c) bytes =
+      line-alike trace b (called s c) (called t c)
+      (ap (λ (a : Answer). a .number) (answered c))
+      (ap (λ (a : Answer). a .adds) (answered c))
+      (answer-shows s t c (answered c))
+  said-alike trace b Command.Bad bytes = line-alike trace b _ _ refl refl shown
 
 -- ---- a run
 
@@ -190,6 +138,5 @@ alike-prints s t a trace input =
 pub printed : Printed
 printed = record {
   alike = alike-prints;
-  same = λ b d cs ds now rail power g k bytes acceleration temperature trace input.
-      alike-prints _ _ (λ further. claim .same b d cs ds now rail power g k bytes acceleration temperature further) trace input;
+  same = λ b d cs ds now rail power g k bytes kept trace input. alike-prints _ _ (λ further. claim .same b d cs ds now rail power g k bytes kept further) trace input;
 }

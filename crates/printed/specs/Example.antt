@@ -6,16 +6,18 @@ use Prim.Native.Nat.{ℕ}
 use Rattle.registers.specs.Access.{withheld, unreadable, image-blocks, locked}
 use Rattle.interrupts.specs.Pin as Pin
 use Rattle.interrupts.specs.State.{configure}
-use Rattle.bma150.specs.Image.{stock, shadowing}
-use Rattle.bma150.specs.Bytes.{peek, shown}
-use Rattle.bma150.specs.Control.{interrupt, shows-new-data}
-use Rattle.bma150.specs.Serial.{output, data-output, spi-drives, i2c-holds}
-use Rattle.refusals.specs.Table.{row, wrong-length, late, refusal-of-start, unless-refused}
-use Rattle.bma150.specs.Calls.{after-start, drive-letter, view-value}
 use Rattle.deadlines.specs.Deadlines.{is-set}
-use Rattle.commands.specs.Decode.{number-at, signed, temperature, view, serial, named, decoded, size, is-bad}
+use Rattle.calls.specs.Facts.{facts}
+use Rattle.calls.specs.Table.{wrong-length, out-of-range, late, too-late, goes-back, before-due, beside-due, first-found, refusal, start-refusal, unless-refused}
+use Rattle.sensor.specs.Image.{stock, shadowing}
+use Rattle.sensor.specs.Bytes.{peek, shown}
+use Rattle.sensor.specs.Mode.{interrupt, shows-new-data}
+use Rattle.serial.specs.Outputs.{output, data-output, spi-drives, i2c-holds}
+use Rattle.bma150.specs.Values.{drive-letter, view-value}
+use Rattle.bma150.specs.Called.{after-start, leaves, adds}
+use Rattle.commands.specs.Decode.{number-at, signed, temperature, view, decode-06-to-0b, decode-01-to-05, decoded, call-size, size, is-bad}
 use Rattle.bench.specs.Text.{word, bit, view-text, due-text}
-use Rattle.bench.specs.Line.{number, step, extra, added, pins, line, said}
+use Rattle.bench.specs.Line.{commanded, added-text, pins, line}
 use Rattle.bench.specs.Run.{turn, iter, whole}
 
 -- 03 00 00 4e 20 0b 00 0b 16 ff
@@ -35,5 +37,5 @@ text =
 
 -- it begins with the stock image at time 0
 pub example : whole false (after-start (record { 0 = 0; 1 = 0 }) stock) input .text ≡ text
-unfolding row wrong-length late refusal-of-start unless-refused after-start shadowing peek shown interrupt shows-new-data output data-output spi-drives i2c-holds drive-letter view-value is-set withheld unreadable image-blocks locked Pin.output Pin.threshold-output Pin.motion-output configure number-at signed temperature view serial named decoded size is-bad word bit view-text due-text number step extra added pins line said turn iter whole
+unfolding facts wrong-length out-of-range late too-late goes-back before-due beside-due first-found refusal start-refusal unless-refused after-start leaves adds shadowing peek shown interrupt shows-new-data output data-output spi-drives i2c-holds drive-letter view-value is-set withheld unreadable image-blocks locked Pin.output Pin.threshold-output Pin.motion-output configure number-at signed temperature view decode-06-to-0b decode-01-to-05 decoded call-size size is-bad word bit view-text due-text commanded added-text pins line turn iter whole
 example = refl

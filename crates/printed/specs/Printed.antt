@@ -4,9 +4,9 @@ use mathlib.Core.Path.{_≡_}
 use mathlib.Core.Bool.{Bool}
 use mathlib.Core.List.{List}
 use Rattle.time.specs.declared.Time.{Time}
-use Rattle.bma150.specs.declared.types.Bma150.{Bma150}
-use Rattle.runs.specs.Calls.{Call}
-use Rattle.runs.specs.Lists.{Start, answers, acceleration, temperature, Returns}
+use Rattle.calls.specs.declared.types.Call.{Call}
+use Rattle.bma150.specs.declared.host.Bma150.{Bma150}
+use Rattle.runs.specs.Lists.{Start, answers, kept, Returns}
 use Rattle.runs.specs.Claim.{left, stored-bytes}
 use Rattle.bench.specs.Run.{whole}
 
@@ -17,7 +17,7 @@ Alike s t = (cs : List Call) → answers s cs ≡ answers t cs
 -- such sensors print the same text for every input, starts and bad commands included
 pub record Printed : Type 0 where
   pub alike : (s t : Bma150) → Alike s t → (trace : Bool) (input : List ℕ) → whole trace s input .text ≡ whole trace t input .text
-  -- so do two that come back from 0 mV at one time with equal stored bytes, acceleration and temperature
+  -- so do two that come back from 0 mV at one time with equal stored bytes and equal kept
   pub same : (b d : Start) (cs ds : List Call) (now : Time) (rail power : ℕ) → Returns b cs now rail → Returns d ds now power
-      → stored-bytes b cs now rail ≡ stored-bytes d ds now power → acceleration b cs ≡ acceleration d ds → temperature b cs ≡ temperature d ds
+      → stored-bytes b cs now rail ≡ stored-bytes d ds now power → kept b cs ≡ kept d ds
       → (trace : Bool) (input : List ℕ) → whole trace (left b cs now rail) input .text ≡ whole trace (left d ds now power) input .text

@@ -18,20 +18,23 @@ use Rattle.interrupts.specs.State.{axis, configure}
 use Rattle.deadlines.specs.declared.Deadline.{Deadline}
 use Rattle.deadlines.specs.declared.Deadline.the-variants.{At, Never}
 use Rattle.deadlines.specs.Deadlines.{is-set, is-by, sooner, first, earliest}
-use Rattle.bma150.specs.declared.types.Bma150.{Bma150}
-use Rattle.bma150.specs.Record.{is-off}
-use Rattle.bma150.specs.Image.{from-nonvolatile, stock, shadowing}
-use Rattle.bma150.specs.Samples.{samples-run, next-sample, write-end, sample-due, next-deadline, interaction-deadline}
-use Rattle.bma150.specs.Serial.{may-select, selected-to}
-use Rattle.bma150.specs.Supply as Supply
-use Rattle.refusals.specs.Table.{beyond, out-of-range, late, back, due-before, row, refusal-of-accelerations}
+use Rattle.sensor.specs.declared.types.Sensor.{Sensor}
+use Rattle.sensor.specs.Record.{is-off}
+use Rattle.sensor.specs.Image.{from-nonvolatile, stock, shadowing}
+use Rattle.writes.specs.Samples.{samples-run, next-sample, write-end, sample-due, next-deadline, interaction-deadline}
+use Rattle.sensor.specs.Select.{may-select, selected-to}
+use Rattle.waits.specs.Supply as Supply
+use Rattle.calls.specs.declared.types.Timed.the-variants as Timed
+use Rattle.calls.specs.declared.types.Call.the-variants as Call
+use Rattle.calls.specs.Facts.{timed-facts, facts}
+use Rattle.calls.specs.Table.{wrong-length, beyond, any-beyond, out-of-range, late, too-late, goes-back, due-by, before-due, beside-due, first-found, refusal}
 
 -- M1, M2: an edge of a clock that starts at 0, in units
 abbrev edge-at : ℕ → ℤ
 edge-at n = pos (ticks (edge (time 0) n))
 
 -- M3, M11: a sensor that starts at 0 with the stock image, and next due in units
-abbrev new : Bma150
+abbrev new : Sensor
 new = from-nonvolatile (time 0) stock
 
 abbrev due-at : Deadline → ℤ
@@ -44,7 +47,7 @@ off-at rail = answer (is-off (Supply.set-supply new rail (time 0) .sensor))
 
 -- M12: the refusal of accelerations with this x, nothing due
 abbrev refused-axis : ℕ → ℤ
-refused-axis x = pos (refusal-of-accelerations (time 0) Never (time 0) (pos x) (pos 0) (pos 0))
+refused-axis x = pos (refusal (time 0) Never (Call.At (time 0) (Timed.Accelerations (pos x) (pos 0) (pos 0))))
 
 -- M4: window 4 (bandwidth 4), codes −1, 0, 0 and then 0
 abbrev fourth-answer : ℤ
@@ -87,5 +90,5 @@ rows =
     ∷ []
 
 pub rows-hold : all rows ≡ true
-unfolding after pushed answered ring tabulate sumZ mean axis observe raised sets clears code held range-g ignores unwritable image-blocks sleep-blocks locked working begins stored configure is-set is-by sooner first earliest samples-run next-sample write-end sample-due next-deadline may-select selected-to Supply.cut Supply.lowered Supply.raised Supply.set-supply shadowing beyond out-of-range late back due-before row refusal-of-accelerations
+unfolding after pushed answered ring tabulate sumZ mean axis observe raised sets clears code held range-g ignores unwritable image-blocks sleep-blocks locked working begins stored configure is-set is-by sooner first earliest samples-run next-sample write-end sample-due next-deadline may-select selected-to Supply.cut Supply.lowered Supply.raised Supply.set-supply shadowing timed-facts facts wrong-length beyond any-beyond out-of-range late too-late goes-back due-by before-due beside-due first-found refusal
 rows-hold = refl

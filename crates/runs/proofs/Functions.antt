@@ -3,7 +3,6 @@ use Prim.Native.Nat.{ℕ}
 use mathlib.Core.Path.{_≡_, refl, sym, ap, _∙_}
 use mathlib.Core.Bool.{Bool, true, false, cond}
 use mathlib.Core.List.{List, []}
-use mathlib.Core.Option.{Option, none, some}
 use lib.Dec.{eqb}
 use lib.IntN.{ℤ}
 use lib.ListN.{length, replicate, length-replicate}
@@ -21,74 +20,83 @@ use Rattle.i2c.specs.declared.types.Levels.{Levels}
 use Rattle.spi.specs.declared.types.Drive.{Drive}
 use Rattle.deadlines.specs.declared.Deadline.{Deadline}
 use Rattle.deadlines.specs.Earliest.{moment-injective}
-use Rattle.refusals.specs.declared.types.Refusal.{Refusal}
-use Rattle.refusals.specs.declared.types.Refusal.the-variants as Refusal
-use Rattle.refusals.specs.declared.types.Outcome.{Outcome}
-use Rattle.refusals.specs.declared.types.Outcome.the-variants as Outcome
-use Rattle.refusals.specs.Table as T
-use Rattle.bma150.specs.declared.types.Report.{Report}
-use Rattle.bma150.specs.declared.types.Report.the-variants as Report
-use Rattle.bma150.specs.declared.types.View.{View}
+use Rattle.calls.specs.declared.types.Timed.{Timed}
+use Rattle.calls.specs.declared.types.Timed.the-variants as Timed
+use Rattle.calls.specs.declared.types.Call.{Call}
+use Rattle.calls.specs.declared.types.Call.the-variants as Call
+use Rattle.calls.specs.declared.types.Refusal.{Refusal}
+use Rattle.calls.specs.declared.types.Refusal.the-variants as Refusal
+use Rattle.calls.specs.declared.types.Outcome.{Outcome}
+use Rattle.calls.specs.declared.types.Outcome.the-variants as Outcome
+use Rattle.calls.specs.Facts.{bringing, facts}
+use Rattle.calls.specs.Table as T
+use Rattle.calls.specs.Theorems.Left.{temperature-accepted, select-accepted, view-accepted}
+use Rattle.sensor.specs.declared.types.View.{View}
+use Rattle.sensor.specs.Image.{nonvolatile}
+use Rattle.sensor.specs.Bytes.{peek}
+use Rattle.writes.specs.Samples.{interaction-deadline}
+use Rattle.waits.specs.declared.types.Report.{Report}
+use Rattle.waits.specs.declared.types.Report.the-variants as Report
 use Rattle.bma150.specs.declared.types.Replied.{Replied}
 use Rattle.bma150.specs.declared.types.Reported.{Reported}
 use Rattle.bma150.specs.declared.types.Answered.{Answered}
-use Rattle.bma150.specs.declared.types.Bma150.{Bma150}
-use Rattle.bma150.specs.Image.{nonvolatile}
-use Rattle.bma150.specs.Control.{interrupt}
-use Rattle.bma150.specs.Samples.{interaction-deadline}
-use Rattle.bma150.specs.Serial.{output, data-output}
-use Rattle.bma150.specs.Calls as C
+use Rattle.bma150.specs.declared.host.Bma150.{Bma150}
+use Rattle.bma150.specs.Values.{report-values, view-value}
+use Rattle.bma150.specs.Called.{Added, reported, of-view, put-in, timed-adds, served, leaves, adds, number, called, start-number, after-start, interrupt, output, data-output}
 use Rattle.bma150.specs.Lent.{DueLent, PinsLent}
-use Rattle.bma150.specs.Values.{drive-letter-injective, report-values-injective, view-value-injective}
-use Rattle.runs.specs.Calls.{Call, Declared, number, step, report, viewed, put, Answer, answer}
-use Rattle.runs.specs.Lists.{Start, started}
+use Rattle.bma150.specs.Theorems.Values.{drive-letter-injective}
+use Rattle.bma150.specs.Theorems.Added.{reported-is, silent-is, buffer-is, image-leaves, view-leaves, view-adds}
+use Rattle.runs.specs.Lists.{Declared, step, Answer, answer, Start, started}
 use Rattle.runs.specs.Replies.{Host, Meets, HostClaim}
 use Rattle.runs.proofs.Replies.{host-claim}
-use Rattle.bma150.proofs.types.Bma150.start.Reads as start-reads
-use Rattle.bma150.proofs.types.Bma150.accelerations.Reads as accelerations-reads
-use Rattle.bma150.proofs.types.Bma150.temperature.Reads as temperature-reads
-use Rattle.bma150.proofs.types.Bma150.supply.Reads as supply-reads
-use Rattle.bma150.proofs.types.Bma150.due.Reads as due-reads
-use Rattle.bma150.proofs.types.Bma150.select.Reads as select-reads
-use Rattle.bma150.proofs.types.Bma150.rising.Reads as rising-reads
-use Rattle.bma150.proofs.types.Bma150.falling.Reads as falling-reads
-use Rattle.bma150.proofs.types.Bma150.pins.Reads as pins-reads
-use Rattle.bma150.proofs.types.Bma150.view.Reads as view-reads
-use Rattle.bma150.proofs.types.Bma150.stored_image.Reads as stored-image-reads
-use Rattle.bma150.proofs.types.Bma150.interrupt.Reads as interrupt-reads
-use Rattle.bma150.proofs.types.Bma150.output.Reads as output-reads
-use Rattle.bma150.proofs.types.Bma150.data_output.Reads as data-output-reads
-use Rattle.bma150.proofs.types.Bma150.next_due.Reads as next-due-reads
-use Rattle.bma150.proofs.types.Bma150.start.Statement as start-stated
-use Rattle.bma150.proofs.types.Bma150.start.Met as start-theorem
-use Rattle.bma150.proofs.types.Bma150.accelerations.Statement as accelerations-stated
-use Rattle.bma150.proofs.types.Bma150.accelerations.Met as accelerations-theorem
-use Rattle.bma150.proofs.types.Bma150.temperature.Statement as temperature-stated
-use Rattle.bma150.proofs.types.Bma150.temperature.Met as temperature-theorem
-use Rattle.bma150.proofs.types.Bma150.supply.Statement as supply-stated
-use Rattle.bma150.proofs.types.Bma150.supply.Met as supply-theorem
-use Rattle.bma150.proofs.types.Bma150.due.Statement as due-stated
-use Rattle.bma150.proofs.types.Bma150.due.Met as due-theorem
-use Rattle.bma150.proofs.types.Bma150.select.Statement as select-stated
-use Rattle.bma150.proofs.types.Bma150.select.Met as select-theorem
-use Rattle.bma150.proofs.types.Bma150.rising.Statement as rising-stated
-use Rattle.bma150.proofs.types.Bma150.rising.Met as rising-theorem
-use Rattle.bma150.proofs.types.Bma150.falling.Statement as falling-stated
-use Rattle.bma150.proofs.types.Bma150.falling.Met as falling-theorem
-use Rattle.bma150.proofs.types.Bma150.pins.Statement as pins-stated
-use Rattle.bma150.proofs.types.Bma150.pins.Met as pins-theorem
-use Rattle.bma150.proofs.types.Bma150.view.Statement as view-stated
-use Rattle.bma150.proofs.types.Bma150.view.Met as view-theorem
-use Rattle.bma150.proofs.types.Bma150.stored_image.Statement as stored-image-stated
-use Rattle.bma150.proofs.types.Bma150.stored_image.Met as stored-image-theorem
-use Rattle.bma150.proofs.types.Bma150.interrupt.Statement as interrupt-stated
-use Rattle.bma150.proofs.types.Bma150.interrupt.Met as interrupt-theorem
-use Rattle.bma150.proofs.types.Bma150.output.Statement as output-stated
-use Rattle.bma150.proofs.types.Bma150.output.Met as output-theorem
-use Rattle.bma150.proofs.types.Bma150.data_output.Statement as data-output-stated
-use Rattle.bma150.proofs.types.Bma150.data_output.Met as data-output-theorem
-use Rattle.bma150.proofs.types.Bma150.next_due.Statement as next-due-stated
-use Rattle.bma150.proofs.types.Bma150.next_due.Met as next-due-theorem
+use Rattle.bma150.proofs.host.Bma150.start.Reads as start-reads
+use Rattle.bma150.proofs.host.Bma150.timed.Reads as timed-reads
+use Rattle.bma150.proofs.host.Bma150.accelerations.Reads as accelerations-reads
+use Rattle.bma150.proofs.host.Bma150.temperature.Reads as temperature-reads
+use Rattle.bma150.proofs.host.Bma150.supply.Reads as supply-reads
+use Rattle.bma150.proofs.host.Bma150.due.Reads as due-reads
+use Rattle.bma150.proofs.host.Bma150.select.Reads as select-reads
+use Rattle.bma150.proofs.host.Bma150.rising.Reads as rising-reads
+use Rattle.bma150.proofs.host.Bma150.falling.Reads as falling-reads
+use Rattle.bma150.proofs.host.Bma150.pins.Reads as pins-reads
+use Rattle.bma150.proofs.host.Bma150.view.Reads as view-reads
+use Rattle.bma150.proofs.host.Bma150.stored_image.Reads as stored-image-reads
+use Rattle.bma150.proofs.host.Bma150.interrupt.Reads as interrupt-reads
+use Rattle.bma150.proofs.host.Bma150.output.Reads as output-reads
+use Rattle.bma150.proofs.host.Bma150.data_output.Reads as data-output-reads
+use Rattle.bma150.proofs.host.Bma150.next_due.Reads as next-due-reads
+use Rattle.bma150.proofs.host.Bma150.start.Statement as start-stated
+use Rattle.bma150.proofs.host.Bma150.start.Met as start-theorem
+use Rattle.bma150.proofs.host.Bma150.timed.Statement as timed-stated
+use Rattle.bma150.proofs.host.Bma150.timed.Met as timed-theorem
+use Rattle.bma150.proofs.host.Bma150.accelerations.Statement as accelerations-stated
+use Rattle.bma150.proofs.host.Bma150.accelerations.Met as accelerations-theorem
+use Rattle.bma150.proofs.host.Bma150.temperature.Statement as temperature-stated
+use Rattle.bma150.proofs.host.Bma150.temperature.Met as temperature-theorem
+use Rattle.bma150.proofs.host.Bma150.supply.Statement as supply-stated
+use Rattle.bma150.proofs.host.Bma150.supply.Met as supply-theorem
+use Rattle.bma150.proofs.host.Bma150.due.Statement as due-stated
+use Rattle.bma150.proofs.host.Bma150.due.Met as due-theorem
+use Rattle.bma150.proofs.host.Bma150.select.Statement as select-stated
+use Rattle.bma150.proofs.host.Bma150.select.Met as select-theorem
+use Rattle.bma150.proofs.host.Bma150.rising.Statement as rising-stated
+use Rattle.bma150.proofs.host.Bma150.rising.Met as rising-theorem
+use Rattle.bma150.proofs.host.Bma150.falling.Statement as falling-stated
+use Rattle.bma150.proofs.host.Bma150.falling.Met as falling-theorem
+use Rattle.bma150.proofs.host.Bma150.pins.Statement as pins-stated
+use Rattle.bma150.proofs.host.Bma150.pins.Met as pins-theorem
+use Rattle.bma150.proofs.host.Bma150.view.Statement as view-stated
+use Rattle.bma150.proofs.host.Bma150.view.Met as view-theorem
+use Rattle.bma150.proofs.host.Bma150.stored_image.Statement as stored-image-stated
+use Rattle.bma150.proofs.host.Bma150.stored_image.Met as stored-image-theorem
+use Rattle.bma150.proofs.host.Bma150.interrupt.Statement as interrupt-stated
+use Rattle.bma150.proofs.host.Bma150.interrupt.Met as interrupt-theorem
+use Rattle.bma150.proofs.host.Bma150.output.Statement as output-stated
+use Rattle.bma150.proofs.host.Bma150.output.Met as output-theorem
+use Rattle.bma150.proofs.host.Bma150.data_output.Statement as data-output-stated
+use Rattle.bma150.proofs.host.Bma150.data_output.Met as data-output-theorem
+use Rattle.bma150.proofs.host.Bma150.next_due.Statement as next-due-stated
+use Rattle.bma150.proofs.host.Bma150.next_due.Met as next-due-theorem
 use Rattle.bma150.proofs.lent.due_lent as due-lent-function
 use Rattle.bma150.proofs.lent.due_lent.Statement as due-lent-stated
 use Rattle.bma150.proofs.lent.due_lent.Met as due-lent-theorem
@@ -112,58 +120,53 @@ pub record Observed (t : Bma150) (o : Pins) : Type 0 where
   pub data-output : data-output-reads.Post tt (t, tt) (o .data-output) (t, tt)
   pub next-due : next-due-reads.Post tt (t, tt) (o .next-due) (t, tt)
 
-abbrev answered : ℕ → Report → Option View → Option (List ℕ) → Pins → Answer
-answered n r v b o = record {
-  number = n;
-  interrupt = o .interrupt;
-  output = o .output;
-  data-output = o .data-output;
-  report = r;
-  viewed = v;
-  put = b;
-  next-due = o .next-due;
-}
+-- the answer of a reply: its number, what it adds, and the observers' replies
+abbrev answered : ℕ → Added → Pins → Answer
+answered n a o = record { number = n; interrupt = o .interrupt; output = o .output; data-output = o .data-output; adds = a; next-due = o .next-due }
 
--- of a call with a refusal and nothing more, and of one that may report
-abbrev replied : Outcome → Pins → Answer
-replied u o = answered (T.number u) Report.Nothing none none o
+-- of a timed call: supply and due calls add their report, if they are accepted
+abbrev replied : Outcome → Timed → Report → Pins → Answer
+replied u t r o = answered (T.number u) (T.unless-refused (T.number u) Added.nothing (timed-adds t r)) o
 
-abbrev reported : Outcome → Report → Pins → Answer
-reported u r o = answered (T.number u) r none none o
+-- of a call without a refusal
+abbrev accepted : Added → Pins → Answer
+accepted a o = answered T.no-refusal a o
 
--- the buffer counts only if the call is accepted
-abbrev handed : Outcome → List ℕ → Option (List ℕ)
-handed u b = T.unless-refused (T.number u) none (some b)
+-- of a stored-image call: the buffer counts only if it is accepted
+abbrev handed : Outcome → List ℕ → Pins → Answer
+handed u b o = answered (T.number u) (T.unless-refused (T.number u) Added.nothing (Added.put b)) o
 
--- the replies of each call: those that its contract allows, by value and lent
+-- the replies of each call: those that the contracts allow of the functions that serve it. The due and the pin call are served by value and lent, every timed call by its own function and by `timed`
 pub data Serves : Bma150 → Call → Bma150 → Answer → Type 0 where
+  timed : {s : Bma150} {now : Time} {t : Timed} (r : Reported) (o : Pins) → timed-reads.Post tt (s, (now, (t, tt))) r (s, (now, (t, tt))) → Observed (r .sensor) o
+      → Serves s (Call.At now t) (r .sensor) (replied (r .outcome) t (r .report) o)
   accelerations : {s : Bma150} {now : Time} {x y z : ℤ} (r : Replied) (o : Pins)
       → accelerations-reads.Post tt (s, (now, (x, (y, (z, tt))))) r (s, (now, (x, (y, (z, tt))))) → Observed (r .sensor) o
-      → Serves s (Call.accelerations now x y z) (r .sensor) (replied (r .outcome) o)
+      → Serves s (Call.At now (Timed.Accelerations x y z)) (r .sensor) (replied (r .outcome) (Timed.Accelerations x y z) Report.Nothing o)
   temperature : {s : Bma150} {m : ℤ} (t : Bma150) (o : Pins) → temperature-reads.Post tt (s, (m, tt)) t (s, (m, tt)) → Observed t o
-      → Serves s (Call.temperature m) t (answered T.no-refusal Report.Nothing none none o)
+      → Serves s (Call.Temperature m) t (accepted Added.nothing o)
   supply : {s : Bma150} {now : Time} {rail : ℕ} (r : Reported) (o : Pins) → supply-reads.Post tt (s, (now, (rail, tt))) r (s, (now, (rail, tt))) → Observed (r .sensor) o
-      → Serves s (Call.supply now rail) (r .sensor) (reported (r .outcome) (r .report) o)
+      → Serves s (Call.At now (Timed.Supply rail)) (r .sensor) (replied (r .outcome) (Timed.Supply rail) (r .report) o)
   due : {s : Bma150} {now : Time} (r : Reported) (o : Pins) → due-reads.Post tt (s, (now, tt)) r (s, (now, tt)) → Observed (r .sensor) o
-      → Serves s (Call.due now) (r .sensor) (reported (r .outcome) (r .report) o)
+      → Serves s (Call.At now Timed.Due) (r .sensor) (replied (r .outcome) Timed.Due (r .report) o)
   due-lent : {s : Bma150} {now : Time} (t : Bma150) (r : Answered) (o : Pins) → DueLent s now t r → Observed t o
-      → Serves s (Call.due-lent now) t (reported (r .outcome) (r .report) o)
+      → Serves s (Call.At now Timed.Due) t (replied (r .outcome) Timed.Due (r .report) o)
   select : {s : Bma150} {on : Bool} (t : Bma150) (o : Pins) → select-reads.Post tt (s, (on, tt)) t (s, (on, tt)) → Observed t o
-      → Serves s (Call.select on) t (answered T.no-refusal Report.Nothing none none o)
+      → Serves s (Call.Select on) t (accepted Added.nothing o)
   rising : {s : Bma150} {now : Time} {mosi : Bool} (r : Replied) (o : Pins) → rising-reads.Post tt (s, (now, (mosi, tt))) r (s, (now, (mosi, tt))) → Observed (r .sensor) o
-      → Serves s (Call.rising now mosi) (r .sensor) (replied (r .outcome) o)
+      → Serves s (Call.At now (Timed.Rising mosi)) (r .sensor) (replied (r .outcome) (Timed.Rising mosi) Report.Nothing o)
   falling : {s : Bma150} {now : Time} (r : Replied) (o : Pins) → falling-reads.Post tt (s, (now, tt)) r (s, (now, tt)) → Observed (r .sensor) o
-      → Serves s (Call.falling now) (r .sensor) (replied (r .outcome) o)
+      → Serves s (Call.At now Timed.Falling) (r .sensor) (replied (r .outcome) Timed.Falling Report.Nothing o)
   pins : {s : Bma150} {now : Time} {before after : Levels} (r : Replied) (o : Pins)
       → pins-reads.Post tt (s, (now, (before, (after, tt)))) r (s, (now, (before, (after, tt)))) → Observed (r .sensor) o
-      → Serves s (Call.pins now before after) (r .sensor) (replied (r .outcome) o)
+      → Serves s (Call.At now (Timed.Pins before after)) (r .sensor) (replied (r .outcome) (Timed.Pins before after) Report.Nothing o)
   pins-lent : {s : Bma150} {now : Time} {before after : Levels} (t : Bma150) (r : Outcome) (o : Pins) → PinsLent s now before after t r → Observed t o
-      → Serves s (Call.pins-lent now before after) t (replied r o)
+      → Serves s (Call.At now (Timed.Pins before after)) t (replied r (Timed.Pins before after) Report.Nothing o)
   view : {s : Bma150} {address : ℕ} (r : View) (o : Pins) → view-reads.Post tt (s, (address, tt)) r (s, (address, tt)) → Observed s o
-      → Serves s (Call.view address) s (answered T.no-refusal Report.Nothing (some r) none o)
+      → Serves s (Call.View address) s (accepted (of-view (view-value r)) o)
   stored-image : {s : Bma150} {now : Time} {n : ℕ} (κs : Lfts 1) (lent left : RefT (List ℕ)) (r : Outcome) (o : Pins) → length (lent .now) ≡ n
       → stored-image-reads.Post κs (s, (now, (lent, tt))) r (s, (now, (left, tt))) → Observed s o
-      → Serves s (Call.stored-image now n) s (answered (T.number r) Report.Nothing none (handed r (left .now)) o)
+      → Serves s (Call.StoredImage now n) s (handed r (left .now) o)
 
 pub data Begins : Start → Bma150 → Type 0 where
   begins : {b : Start} (κs : Lfts 1) (lent : RefT (List ℕ)) (r : Replied) → lent .now ≡ b .image
@@ -175,9 +178,8 @@ functions = record { calls = Serves; starts = Begins }
 -- ---- they are the definitions'
 
 -- the observers of a sensor that is the definitions'
-answer-is : (s : Bma150) (c : Call) (t : Bma150) (n : ℕ) (r : Report) (v : Option View) (b : Option (List ℕ)) (o : Pins)
-    → Observed t o → t ≡ step s c → n ≡ number s c → r ≡ report s c → v ≡ viewed s c → b ≡ put s c → answered n r v b o ≡ answer s c
-answer-is s c t n r v b o p e en er ev eb =
+answer-is : (s : Bma150) (c : Call) (t : Bma150) (n : ℕ) (a : Added) (o : Pins) → Observed t o → t ≡ step s c → n ≡ number s c → a ≡ called s c .adds → answered n a o ≡ answer s c
+answer-is s c t n a o p e en ea =
     rw (
       p .interrupt,
       drive-letter-injective _ _ (p .output),
@@ -185,50 +187,47 @@ answer-is s c t n r v b o p e en er ev eb =
       moment-injective _ _ (p .next-due),
       e,
       en,
-      er,
-      ev,
-      eb,
+      ea,
     )
 
--- the buffer of a stored-image call
-put-is : (n : ℕ) (lent image left : List ℕ) → left ≡ T.unless-refused n lent image → T.unless-refused n none (some left) ≡ T.unless-refused n none (some image)
-unfolding T.unless-refused
-put-is n lent image left e = go (eqb n 0) e
-  where
-    go : (t : Bool) → left ≡ cond t image lent → _≡_ {A = Option (List ℕ)} (cond t (some left) none) (cond t (some image) none)
-    go true e = ap some e
-    go false e = refl
-
-served : {s t : Bma150} {c : Call} {a : Answer} → Serves s c t a → (t ≡ step s c) × (a ≡ answer s c)
-unfolding step number report viewed put C.buffer-after
-served {s} (Serves.accelerations {now = now} {x = x} {y = y} {z = z} r o p q) =
-    (p .1, answer-is s (Call.accelerations now x y z) (r .sensor) _ _ _ _ o q (p .1) (p .0) refl refl refl)
-served {s} (Serves.temperature {m = m} t o p q) = (p, answer-is s (Call.temperature m) t _ _ _ _ o q p refl refl refl refl)
-served {s} (Serves.supply {now = now} {rail = rail} r o p q) =
-    (p .1 .0, answer-is s (Call.supply now rail) (r .sensor) _ _ _ _ o q (p .1 .0) (p .0) (report-values-injective _ _ (p .1 .1)) refl refl)
-served {s} (Serves.due {now = now} r o p q) =
-    (p .1 .0, answer-is s (Call.due now) (r .sensor) _ _ _ _ o q (p .1 .0) (p .0) (report-values-injective _ _ (p .1 .1)) refl refl)
-served {s} (Serves.due-lent {now = now} t r o p q) =
-    (p .leaves, answer-is s (Call.due-lent now) t _ _ _ _ o q (p .leaves) (p .answers) (report-values-injective _ _ (p .reports)) refl refl)
-served {s} (Serves.select {on = on} t o p q) = (p, answer-is s (Call.select on) t _ _ _ _ o q p refl refl refl refl)
-served {s} (Serves.rising {now = now} {mosi = mosi} r o p q) = (p .1, answer-is s (Call.rising now mosi) (r .sensor) _ _ _ _ o q (p .1) (p .0) refl refl refl)
-served {s} (Serves.falling {now = now} r o p q) = (p .1, answer-is s (Call.falling now) (r .sensor) _ _ _ _ o q (p .1) (p .0) refl refl refl)
-served {s} (Serves.pins {now = now} {before = before} {after = after} r o p q) =
-    (p .1, answer-is s (Call.pins now before after) (r .sensor) _ _ _ _ o q (p .1) (p .0) refl refl refl)
-served {s} (Serves.pins-lent {now = now} {before = before} {after = after} t r o p q) =
-    (p .leaves, answer-is s (Call.pins-lent now before after) t _ _ _ _ o q (p .leaves) (p .answers) refl refl refl)
-served {s} (Serves.view {address = address} r o p q) =
-    (refl, answer-is s (Call.view address) s _ _ _ _ o q refl refl refl (ap some (view-value-injective _ _ p)) refl)
-served {s} (Serves.stored-image {now = now} {n = n} κs lent left r o h p q) =
-    let e : T.number r ≡ C.stored-image-number s now n = p .0 ∙ ap (λ (k : ℕ). C.stored-image-number s now k) h in
-    let b : left .now ≡ T.unless-refused (T.number r) (lent .now) (nonvolatile s now) = p .1 ∙ ap (λ (k : ℕ). T.unless-refused k (lent .now) (nonvolatile s now)) (sym (p .0)) in
-    (refl, answer-is s (Call.stored-image now n) s _ _ _ _ o q refl e refl refl (put-is (T.number r) (lent .now) (nonvolatile s now) (left .now) b ∙ ap (λ (k : ℕ). T.unless-refused k none (some (nonvolatile s now))) e))
+served-is : {s t : Bma150} {c : Call} {a : Answer} → Serves s c t a → (t ≡ step s c) × (a ≡ answer s c)
+unfolding timed-adds adds leaves T.unless-refused
+served-is {s} (Serves.timed {now = now} {t = t} r o p q) =
+    (p .1 .0, answer-is s (Call.At now t) (r .sensor) _ _ o q (p .1 .0) (p .0) (reported-is s now t _ (r .report) (p .0) (p .1 .1)))
+served-is {s} (Serves.accelerations {now = now} {x = x} {y = y} {z = z} r o p q) =
+    (p .1, answer-is s (Call.At now (Timed.Accelerations x y z)) (r .sensor) _ _ o q (p .1) (p .0) (silent-is s now (Timed.Accelerations x y z) _ (p .0) refl))
+served-is {s} (Serves.temperature {m = m} t o p q) =
+    let e = temperature-accepted (s .last) (interaction-deadline (s .sensor)) m in
+    (p, answer-is s (Call.Temperature m) t _ _ o q p (sym e) (sym (ap (λ (n : ℕ). T.unless-refused n Added.nothing Added.nothing) e)))
+served-is {s} (Serves.supply {now = now} {rail = rail} r o p q) =
+    (p .1 .0, answer-is s (Call.At now (Timed.Supply rail)) (r .sensor) _ _ o q (p .1 .0) (p .0) (reported-is s now (Timed.Supply rail) _ (r .report) (p .0) (p .1 .1)))
+served-is {s} (Serves.due {now = now} r o p q) =
+    (p .1 .0, answer-is s (Call.At now Timed.Due) (r .sensor) _ _ o q (p .1 .0) (p .0) (reported-is s now Timed.Due _ (r .report) (p .0) (p .1 .1)))
+served-is {s} (Serves.due-lent {now = now} t r o p q) =
+    (p .leaves, answer-is s (Call.At now Timed.Due) t _ _ o q (p .leaves) (p .answers) (reported-is s now Timed.Due _ (r .report) (p .answers) (p .reports)))
+served-is {s} (Serves.select {on = on} t o p q) =
+    let e = select-accepted (s .last) (interaction-deadline (s .sensor)) on in
+    (p, answer-is s (Call.Select on) t _ _ o q p (sym e) (sym (ap (λ (n : ℕ). T.unless-refused n Added.nothing Added.nothing) e)))
+served-is {s} (Serves.rising {now = now} {mosi = mosi} r o p q) =
+    (p .1, answer-is s (Call.At now (Timed.Rising mosi)) (r .sensor) _ _ o q (p .1) (p .0) (silent-is s now (Timed.Rising mosi) _ (p .0) refl))
+served-is {s} (Serves.falling {now = now} r o p q) =
+    (p .1, answer-is s (Call.At now Timed.Falling) (r .sensor) _ _ o q (p .1) (p .0) (silent-is s now Timed.Falling _ (p .0) refl))
+served-is {s} (Serves.pins {now = now} {before = before} {after = after} r o p q) =
+    (p .1, answer-is s (Call.At now (Timed.Pins before after)) (r .sensor) _ _ o q (p .1) (p .0) (silent-is s now (Timed.Pins before after) _ (p .0) refl))
+served-is {s} (Serves.pins-lent {now = now} {before = before} {after = after} t r o p q) =
+    (p .leaves, answer-is s (Call.At now (Timed.Pins before after)) t _ _ o q (p .leaves) (p .answers) (silent-is s now (Timed.Pins before after) _ (p .answers) refl))
+served-is {s} (Serves.view {address = address} r o p q) =
+    (view-leaves s address, answer-is s (Call.View address) s _ _ o q (view-leaves s address) (sym (view-accepted (s .last) (interaction-deadline (s .sensor)) address)) p)
+served-is {s} (Serves.stored-image {now = now} {n = n} κs lent left r o h p q) =
+    let e : T.number r ≡ number s (Call.StoredImage now n) = p .0 ∙ ap (λ (k : ℕ). number s (Call.StoredImage now k)) h in
+    let b : left .now ≡ put-in (called s (Call.StoredImage now n) .adds) (lent .now) = p .1 ∙ ap (λ (k : ℕ). put-in (called s (Call.StoredImage now k) .adds) (lent .now)) h in
+    (image-leaves s now n, answer-is s (Call.StoredImage now n) s _ _ o q (image-leaves s now n) e (buffer-is s now n _ (lent .now) (left .now) e b))
 
 -- ---- there is a reply to every call of declared arguments
 
 -- for each number that the table gives there is an answer
-row-answer : {n : ℕ} (found : Bool) (why : Refusal) → (o : Outcome) × (T.number o ≡ n) → (o : Outcome) × (T.number o ≡ T.row found (T.refusal-number why) n)
-unfolding T.row T.number
+row-answer : {n : ℕ} (found : Bool) (why : Refusal) → (o : Outcome) × (T.number o ≡ n) → (o : Outcome) × (T.number o ≡ cond found (T.refusal-number why) n)
+unfolding T.number
 row-answer true why r = (Outcome.Refused why, refl)
 row-answer false why r = r
 
@@ -236,34 +235,23 @@ accepted-answer : (o : Outcome) × (T.number o ≡ 0)
 unfolding T.number
 accepted-answer = (Outcome.Accepted, refl)
 
-module _ (last now : Time) where
-  in-order-answer : {n : ℕ} → (o : Outcome) × (T.number o ≡ n) → (o : Outcome) × (T.number o ≡ T.in-order last now n)
-  unfolding T.refusal-number
-  in-order-answer r = row-answer (T.late now) Refusal.TimeLimit (row-answer (T.back last now) Refusal.TimeBack r)
+outcome-of : (last : Time) (d : Deadline) (c : Call) → (o : Outcome) × (T.number o ≡ T.refusal last d c)
+unfolding T.refusal T.first-found T.refusal-number
+outcome-of last d c =
+    row-answer (T.wrong-length (facts c .bytes)) Refusal.ImageLength
+    (row-answer (T.too-late (facts c .time)) Refusal.TimeLimit
+    (row-answer (T.goes-back last (facts c .time)) Refusal.TimeBack
+    (row-answer (T.out-of-range (facts c .axes)) Refusal.AxisRange
+    (row-answer (T.before-due d (facts c .kind) (facts c .time)) Refusal.DueFirst
+    (row-answer (T.beside-due d (facts c .kind) (facts c .time)) Refusal.NotDue accepted-answer)))))
 
-  timed-answer : (d : Deadline) → (o : Outcome) × (T.number o ≡ T.refusal-of-timed last d now)
-  unfolding T.refusal-of-timed T.refusal-number
-  timed-answer d = in-order-answer (row-answer (T.due-before d now) Refusal.DueFirst accepted-answer)
-
-  accelerations-answer : (d : Deadline) (x y z : ℤ) → (o : Outcome) × (T.number o ≡ T.refusal-of-accelerations last d now x y z)
-  unfolding T.refusal-of-accelerations T.refusal-number
-  accelerations-answer d x y z = in-order-answer (row-answer (T.out-of-range x y z) Refusal.AxisRange (row-answer (T.due-before d now) Refusal.DueFirst accepted-answer))
-
-  due-answer : (d : Deadline) → (o : Outcome) × (T.number o ≡ T.refusal-of-due last d now)
-  unfolding T.refusal-of-due T.refusal-number
-  due-answer d = in-order-answer (row-answer (T.due-elsewhere d now) Refusal.NotDue accepted-answer)
-
-  stored-image-answer : (n : ℕ) → (o : Outcome) × (T.number o ≡ T.refusal-of-stored-image last now n)
-  unfolding T.refusal-of-stored-image T.refusal-number
-  stored-image-answer n = row-answer (T.wrong-length n) Refusal.ImageLength (in-order-answer accepted-answer)
-
-start-answer : (now : Time) (n : ℕ) → (o : Outcome) × (T.number o ≡ T.refusal-of-start now n)
-unfolding T.refusal-of-start T.refusal-number
-start-answer now n = row-answer (T.wrong-length n) Refusal.ImageLength (row-answer (T.late now) Refusal.TimeLimit accepted-answer)
+start-outcome : (now : Time) (n : ℕ) → (o : Outcome) × (T.number o ≡ T.start-refusal now n)
+unfolding T.start-refusal T.first-found T.refusal-number
+start-outcome now n = row-answer (T.wrong-length (bringing now n .bytes)) Refusal.ImageLength (row-answer (T.too-late (bringing now n .time)) Refusal.TimeLimit accepted-answer)
 
 -- the observers' replies that the definitions give
 abbrev seen : Bma150 → Pins
-seen t = record { interrupt = interrupt t; output = output t; data-output = data-output t; next-due = interaction-deadline t }
+seen t = record { interrupt = interrupt t; output = output t; data-output = data-output t; next-due = interaction-deadline (t .sensor) }
 
 observed : (t : Bma150) → Observed t (seen t)
 observed t = record { interrupt = refl; output = refl; data-output = refl; next-due = refl }
@@ -272,70 +260,78 @@ observed t = record { interrupt = refl; output = refl; data-output = refl; next-
 abbrev at-address : List ℕ → RefT (List ℕ)
 at-address l = record { ptr = (0, 0); name = 0; now = l }
 
+-- a report with these values
+timed-report : (t : Timed) (q : Report) → (r : Report) × (report-values r ≡ reported (timed-adds t q))
+unfolding timed-adds reported report-values
+timed-report (Timed.Accelerations x y z) q = (Report.Nothing, refl)
+timed-report (Timed.Supply rail) q = (q, refl)
+timed-report Timed.Due q = (q, refl)
+timed-report (Timed.Rising mosi) q = (Report.Nothing, refl)
+timed-report Timed.Falling q = (Report.Nothing, refl)
+timed-report (Timed.Pins before after) q = (Report.Nothing, refl)
+
+report-of : (s : Bma150) (now : Time) (t : Timed) → (r : Report) × (report-values r ≡ reported (called s (Call.At now t) .adds))
+unfolding T.unless-refused adds reported report-values
+report-of s now t = go (eqb (number s (Call.At now t)) 0)
+  where
+    go : (b : Bool) → (r : Report) × (report-values r ≡ reported (cond b (timed-adds t (served s now t .report)) Added.nothing))
+    go true = timed-report t (served s now t .report)
+    go false = (Report.Nothing, refl)
+
 replies : (s : Bma150) (c : Call) → Declared c → (t : Bma150) × (a : Answer) × Serves s c t a
-replies s (Call.accelerations now x y z) d =
-    let u = accelerations-answer (s .last) now (interaction-deadline s) x y z in
-    let r : Replied = record { sensor = C.after-accelerations s now x y z; outcome = u .0 } in
-    (r .sensor, replied (u .0) (seen (r .sensor)), Serves.accelerations r (seen (r .sensor)) (u .1, refl) (observed (r .sensor)))
-replies s (Call.temperature m) d =
-    let t = C.after-temperature s m in
-    (t, answered T.no-refusal Report.Nothing none none (seen t), Serves.temperature t (seen t) refl (observed t))
-replies s (Call.supply now rail) d =
-    let u = timed-answer (s .last) now (interaction-deadline s) in
-    let r : Reported = record { sensor = C.after-supply s now rail; outcome = u .0; report = C.supply-report s now rail } in
-    (r .sensor, reported (u .0) (r .report) (seen (r .sensor)), Serves.supply r (seen (r .sensor)) (u .1, (refl, refl)) (observed (r .sensor)))
-replies s (Call.due now) d =
-    let u = due-answer (s .last) now (interaction-deadline s) in
-    let r : Reported = record { sensor = C.after-due s now; outcome = u .0; report = C.due-report s now } in
-    (r .sensor, reported (u .0) (r .report) (seen (r .sensor)), Serves.due r (seen (r .sensor)) (u .1, (refl, refl)) (observed (r .sensor)))
-replies s (Call.due-lent now) d =
-    let u = due-answer (s .last) now (interaction-deadline s) in
-    let t = C.after-due s now in
-    let r : Answered = record { outcome = u .0; report = C.due-report s now } in
-    (t, reported (u .0) (r .report) (seen t), Serves.due-lent t r (seen t) (record { answers = u .1; leaves = refl; reports = refl }) (observed t))
-replies s (Call.select on) d =
-    let t = C.after-select s on in
-    (t, answered T.no-refusal Report.Nothing none none (seen t), Serves.select t (seen t) refl (observed t))
-replies s (Call.rising now mosi) d =
-    let u = timed-answer (s .last) now (interaction-deadline s) in
-    let r : Replied = record { sensor = C.after-rising s now mosi; outcome = u .0 } in
-    (r .sensor, replied (u .0) (seen (r .sensor)), Serves.rising r (seen (r .sensor)) (u .1, refl) (observed (r .sensor)))
-replies s (Call.falling now) d =
-    let u = timed-answer (s .last) now (interaction-deadline s) in
-    let r : Replied = record { sensor = C.after-falling s now; outcome = u .0 } in
-    (r .sensor, replied (u .0) (seen (r .sensor)), Serves.falling r (seen (r .sensor)) (u .1, refl) (observed (r .sensor)))
-replies s (Call.pins now before after) d =
-    let u = timed-answer (s .last) now (interaction-deadline s) in
-    let r : Replied = record { sensor = C.after-pins s now before after; outcome = u .0 } in
-    (r .sensor, replied (u .0) (seen (r .sensor)), Serves.pins r (seen (r .sensor)) (u .1, refl) (observed (r .sensor)))
-replies s (Call.pins-lent now before after) d =
-    let u = timed-answer (s .last) now (interaction-deadline s) in
-    let t = C.after-pins s now before after in
-    (t, replied (u .0) (seen t), Serves.pins-lent t (u .0) (seen t) (record { answers = u .1; leaves = refl }) (observed t))
-replies s (Call.view address) d =
-    (s, answered T.no-refusal Report.Nothing (some (C.viewed s address)) none (seen s), Serves.view (C.viewed s address) (seen s) refl (observed s))
-replies s (Call.stored-image now n) d =
-    let u = stored-image-answer (s .last) now n in
+replies s (Call.At now t) d =
+    let u = outcome-of (s .last) (interaction-deadline (s .sensor)) (Call.At now t) in
+    let w = report-of s now t in
+    let r : Reported = record { sensor = step s (Call.At now t); outcome = u .0; report = w .0 } in
+    (r .sensor, replied (u .0) t (w .0) (seen (r .sensor)), Serves.timed r (seen (r .sensor)) (u .1, (refl, w .1)) (observed (r .sensor)))
+replies s (Call.Temperature m) d =
+    let t = step s (Call.Temperature m) in
+    (t, accepted Added.nothing (seen t), Serves.temperature t (seen t) refl (observed t))
+replies s (Call.Select on) d =
+    let t = step s (Call.Select on) in
+    (t, accepted Added.nothing (seen t), Serves.select t (seen t) refl (observed t))
+replies s (Call.View address) d =
+    let v = peek (s .sensor) address in
+    (s, accepted (of-view (view-value v)) (seen s), Serves.view v (seen s) (view-adds s address) (observed s))
+replies s (Call.StoredImage now n) d =
+    let u = outcome-of (s .last) (interaction-deadline (s .sensor)) (Call.StoredImage now n) in
     let zeros : List ℕ = replicate n 0 in
-    let lent = at-address zeros in
-    let left = at-address (C.buffer-after s now zeros) in
-    let e : length zeros ≡ n = length-replicate n 0 in (
+    let e : length zeros ≡ n = length-replicate n 0 in
+    let left = at-address (put-in (called s (Call.StoredImage now (length zeros)) .adds) zeros) in (
       s,
-      answered (T.number (u .0)) Report.Nothing none (handed (u .0) (left .now)) (seen s),
-      Serves.stored-image ([], tt) lent left (u .0) (seen s) e (u .1 ∙ ap (λ (k : ℕ). C.stored-image-number s now k) (sym e), refl) (observed s),
+      handed (u .0) (left .now) (seen s),
+      Serves.stored-image ([], tt) (at-address zeros) left (u .0) (seen s) e (u .1 ∙ ap (λ (k : ℕ). number s (Call.StoredImage now k)) (sym e), refl) (observed s),
     )
 
+-- the due and the pin call have a lent reply too
+module _ (s : Bma150) (now : Time) where
+  pub due-lent-replies : (t : Bma150) × (a : Answer) × (r : Answered) × DueLent s now t r × Serves s (Call.At now Timed.Due) t a
+  due-lent-replies =
+      let u = outcome-of (s .last) (interaction-deadline (s .sensor)) (Call.At now Timed.Due) in
+      let w = report-of s now Timed.Due in
+      let t = step s (Call.At now Timed.Due) in
+      let r : Answered = record { outcome = u .0; report = w .0 } in
+      let e : DueLent s now t r = record { answers = u .1; leaves = refl; reports = w .1 } in
+      (t, replied (u .0) Timed.Due (w .0) (seen t), r, e, Serves.due-lent t r (seen t) e (observed t))
+
+  pub pins-lent-replies : (before after : Levels) → (t : Bma150) × (a : Answer) × (r : Outcome) × PinsLent s now before after t r × Serves s (Call.At now (Timed.Pins before after)) t a
+  pins-lent-replies before after =
+      let u = outcome-of (s .last) (interaction-deadline (s .sensor)) (Call.At now (Timed.Pins before after)) in
+      let t = step s (Call.At now (Timed.Pins before after)) in
+      let e : PinsLent s now before after t (u .0) = record { answers = u .1; leaves = refl } in
+      (t, replied (u .0) (Timed.Pins before after) Report.Nothing (seen t), u .0, e, Serves.pins-lent t (u .0) (seen t) e (observed t))
+
 begun : {b : Start} {s : Bma150} → Begins b s → s ≡ started b
-begun {b} (Begins.begins κs lent r h p) = p .1 ∙ ap (λ (l : List ℕ). C.after-start (b .time) l) h
+begun {b} (Begins.begins κs lent r h p) = p .1 ∙ ap (λ (l : List ℕ). after-start (b .time) l) h
 
 starting : (b : Start) → (s : Bma150) × Begins b s
 starting b =
-    let u = start-answer (b .time) (length (b .image)) in
+    let u = start-outcome (b .time) (length (b .image)) in
     let r : Replied = record { sensor = started b; outcome = u .0 } in
     (started b, Begins.begins ([], tt) (at-address (b .image)) r refl (u .1, refl))
 
 pub functions-meet : Meets functions
-functions-meet = record { steps = served; starting = begun; replies = replies; begins = starting }
+functions-meet = record { steps = served-is; starting = begun; replies = replies; begins = starting }
 
 -- ---- the lent calls' clauses are the records that `Serves` has
 
@@ -351,6 +347,7 @@ module _ {M : Type 1} (𝓤 : URA M) (H : Heap 𝓤) (A : Atoms 𝓤) (memory : 
 
 pub record CodeClaim : Type 2 where
   pub start : {M : Type 1} → start-stated.statement M
+  pub timed : {M : Type 1} → timed-stated.statement M
   pub accelerations : {M : Type 1} → accelerations-stated.statement M
   pub temperature : {M : Type 1} → temperature-stated.statement M
   pub supply : {M : Type 1} → supply-stated.statement M
@@ -372,6 +369,7 @@ pub record CodeClaim : Type 2 where
 pub code-claim : CodeClaim
 code-claim = record {
   start = start-theorem.met;
+  timed = timed-theorem.met;
   accelerations = accelerations-theorem.met;
   temperature = temperature-theorem.met;
   supply = supply-theorem.met;

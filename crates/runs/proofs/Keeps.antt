@@ -1,4 +1,4 @@
--- What leaves the stored bytes, the running write, the supply, the input, the select pin and the last accepted time as they are. Assumes nothing.
+-- What leaves the stored bytes, the running write, the supply, what is kept and the select pin as they are. Assumes nothing.
 use Prim.Native.Nat.{ℕ}
 use mathlib.Core.Path.{_≡_, refl, ap, _∙_}
 use mathlib.Core.Bool.{Bool, true, false, cond, not, _&&_}
@@ -20,117 +20,119 @@ use Rattle.control.specs.declared.types.SelfTest.{SelfTest}
 use Rattle.control.specs.declared.types.SelfTest.the-variants as SelfTest
 use Rattle.control.specs.declared.types.Sleep.{Sleep}
 use Rattle.control.specs.declared.types.Sleep.the-variants as Sleep
-use Rattle.sampling.specs.declared.types.Input.{Input}
-use Rattle.bma150.specs.declared.types.Writing.{Writing}
-use Rattle.bma150.specs.declared.types.Supply.{Supply}
-use Rattle.bma150.specs.declared.types.View.{View}
-use Rattle.bma150.specs.declared.types.View.the-variants as View
-use Rattle.bma150.specs.declared.types.Bma150.{Bma150}
+use Rattle.sensor.specs.declared.types.Kept.{Kept}
+use Rattle.sensor.specs.declared.types.Writing.{Writing}
+use Rattle.sensor.specs.declared.types.Supply.{Supply}
+use Rattle.sensor.specs.declared.types.View.{View}
+use Rattle.sensor.specs.declared.types.View.the-variants as View
+use Rattle.sensor.specs.declared.types.Sensor.{Sensor}
 use Rattle.deadlines.specs.Deadlines.{is-set, is-at}
 use Rattle.control.specs.Automatic.{holds, pauses-again}
 use Rattle.control.specs.Writes as Writes
 use Rattle.registers.specs.Map.{at, operation, latch-INT}
 use Rattle.i2c.specs.Engine as E
 use Rattle.spi.specs.Frame as F
-use Rattle.bma150.specs.Record.{with-frame, is-off, is-dead, is-quiet, four-wire, automatic}
-use Rattle.bma150.specs.Control.{criterion, may-sleep, paused-again, held, verified, automatic-control}
-use Rattle.bma150.specs.Writes.{put, recounted, interrupts-reset, interrupts-written, tested, slept, image-written, control-written, mode-written, operation-written, applied, followed}
-use Rattle.bma150.specs.Samples.{advanced, lags, sync-local-until}
-use Rattle.bma150.specs.Bytes.{fetched, notes, noted}
-use Rattle.bma150.specs.Serial.{spi-listens, i2c-listens, reselected, selected-to, moved, shift-output, rise-synced, fall-synced, falling-effect, falling-at, pins-synced}
-use Rattle.bma150.specs.Supply.{woken}
-use Rattle.bma150.specs.Due.{sample-is, waits-ended, pause-ended, image-ended, wake-ended, sample-ended, sample-served}
+use Rattle.sensor.specs.Record.{with-frame, is-off, is-dead, is-quiet, four-wire, automatic}
+use Rattle.sensor.specs.Mode.{criterion, may-sleep, paused-again, held, verified, automatic-control}
+use Rattle.sensor.specs.Record.{put}
+use Rattle.writes.specs.Write.{recounted, interrupts-reset, interrupts-written, tested, slept, image-written, control-written, mode-written, operation-written, applied, followed}
+use Rattle.writes.specs.Samples.{advanced, lags, sync-local-until}
+use Rattle.sensor.specs.Bytes.{fetched, notes, noted}
+use Rattle.serial.specs.SpiEdges.{spi-listens, moved, shift-output, rise-synced, fall-synced, falling-effect, falling-at}
+use Rattle.serial.specs.I2cPins.{i2c-listens, pins-synced}
+use Rattle.sensor.specs.Select.{reselected, selected-to}
+use Rattle.waits.specs.Supply.{woken}
+use Rattle.waits.specs.Due.{sample-is, waits-ended, pause-ended, image-ended, wake-ended, sample-ended, sample-served}
 
--- ---- the six parts
+-- ---- the five parts
 
 pub record Core : Type 0 where
   pub cells : List ℕ
   pub writing : Writing
   pub supply : Supply
-  pub input : Input
+  pub kept : Kept
   pub selected : Bool
-  pub last : Time
 
-abbrev pub core : Bma150 → Core
-core s = record { cells = s .nonvolatile; writing = s .writing; supply = s .supply; input = s .input; selected = s .frame .selected; last = s .last }
+abbrev pub core : Sensor → Core
+core s = record { cells = s .nonvolatile; writing = s .writing; supply = s .supply; kept = s .kept; selected = s .frame .selected }
 
 -- t has them of s. A record, so that s and t are inferred from it
-pub record Keeps (s t : Bma150) : Type 0 where
+pub record Keeps (s t : Sensor) : Type 0 where
   pub same : core t ≡ core s
 
-pub then : {s t u : Bma150} → Keeps s t → Keeps t u → Keeps s u
+pub then : {s t u : Sensor} → Keeps s t → Keeps t u → Keeps s u
 then p q = record { same = q .same ∙ p .same }
 
-pub pick : {s t u : Bma150} (b : Bool) → Keeps s t → Keeps s u → Keeps s (cond b t u)
+pub pick : {s t u : Sensor} (b : Bool) → Keeps s t → Keeps s u → Keeps s (cond b t u)
 pick true p q = p
 pick false p q = q
 
-pub itself : (s : Bma150) → Keeps s s
+pub itself : (s : Sensor) → Keeps s s
 itself s = record { same = refl }
 
 -- ---- automatic mode
 
-paused-again-keeps : (s : Bma150) (now : Time) → Keeps s (paused-again s now)
+paused-again-keeps : (s : Sensor) (now : Time) → Keeps s (paused-again s now)
 unfolding paused-again
 paused-again-keeps s now = pick (pauses-again (s .sampling .asleep) (is-set (s .deadlines .pause))) (record { same = refl }) (itself s)
 
-held-keeps : (s : Bma150) (now : Time) (was : Bool) → Keeps s (held s now was)
+held-keeps : (s : Sensor) (now : Time) (was : Bool) → Keeps s (held s now was)
 unfolding held
 held-keeps s now was = pick (holds was (latch-INT (at (s .registers) operation)) (criterion s)) (record { same = refl }) (itself s)
 
-verified-keeps : (s : Bma150) (now : Time) (verify : Bool) → Keeps s (verified s now verify)
+verified-keeps : (s : Sensor) (now : Time) (verify : Bool) → Keeps s (verified s now verify)
 unfolding verified
 verified-keeps s now verify = pick (may-sleep s verify) (record { same = refl }) (itself s)
 
-pub automatic-keeps : (s : Bma150) (now : Time) (was verify : Bool) → Keeps s (automatic-control s now was verify)
+pub automatic-keeps : (s : Sensor) (now : Time) (was verify : Bool) → Keeps s (automatic-control s now was verify)
 unfolding automatic-control
 automatic-keeps s now was verify =
     pick (automatic s) (then (paused-again-keeps s now) (then (held-keeps _ now was) (verified-keeps _ now verify))) (record { same = refl })
 
 -- ---- register writes but stored ones
 
-recounted-keeps : (s : Bma150) (again : Bool) → Keeps s (recounted s again)
+recounted-keeps : (s : Sensor) (again : Bool) → Keeps s (recounted s again)
 unfolding recounted
 recounted-keeps s again = pick again (record { same = refl }) (itself s)
 
-reset-keeps : (s : Bma150) → Keeps s (interrupts-reset s)
+reset-keeps : (s : Sensor) → Keeps s (interrupts-reset s)
 reset-keeps s = then (record { same = refl }) (recounted-keeps _ _)
 
-interrupts-keeps : (s : Bma150) (value : ℕ) → Keeps s (interrupts-written s value)
+interrupts-keeps : (s : Sensor) (value : ℕ) → Keeps s (interrupts-written s value)
 unfolding interrupts-written
 interrupts-keeps s value = pick (Writes.resets-interrupts value) (reset-keeps s) (itself s)
 
-tested-keeps : (t : SelfTest) (s : Bma150) → Keeps s (tested t s)
+tested-keeps : (t : SelfTest) (s : Sensor) → Keeps s (tested t s)
 unfolding tested
 tested-keeps SelfTest.Starts s = record { same = refl }
 tested-keeps SelfTest.Stops s = record { same = refl }
 tested-keeps SelfTest.Stays s = itself s
 
-slept-keeps : (t : Sleep) (s : Bma150) (now : Time) → Keeps s (slept t s now)
+slept-keeps : (t : Sleep) (s : Sensor) (now : Time) → Keeps s (slept t s now)
 unfolding slept
 slept-keeps Sleep.Wakes s now = record { same = refl }
 slept-keeps Sleep.Pauses s now = record { same = refl }
 slept-keeps Sleep.Stays s now = itself s
 
-image-keeps : (s : Bma150) (value : ℕ) (now : Time) → Keeps s (image-written s value now)
+image-keeps : (s : Sensor) (value : ℕ) (now : Time) → Keeps s (image-written s value now)
 unfolding image-written
 image-keeps s value now = pick (Writes.copies-image value) (record { same = refl }) (itself s)
 
-put-keeps : (s : Bma150) (address value : ℕ) → Keeps s (put s address value)
+put-keeps : (s : Sensor) (address value : ℕ) → Keeps s (put s address value)
 put-keeps s address value = record { same = refl }
 
-control-keeps : (s : Bma150) (value : ℕ) (now : Time) → Keeps s (control-written s value now)
+control-keeps : (s : Sensor) (value : ℕ) (now : Time) → Keeps s (control-written s value now)
 control-keeps s value now =
     then (put-keeps s _ _) (then (interrupts-keeps _ value) (then (tested-keeps _ _) (then (slept-keeps _ _ now) (image-keeps _ value now))))
 
-mode-keeps : (s : Bma150) (turns : Bool) → Keeps s (mode-written s turns)
+mode-keeps : (s : Sensor) (turns : Bool) → Keeps s (mode-written s turns)
 unfolding mode-written
 mode-keeps s turns = pick turns (then (recounted-keeps s true) (record { same = refl })) (itself s)
 
-operation-keeps : (s : Bma150) (value : ℕ) → Keeps s (operation-written s value)
+operation-keeps : (s : Sensor) (value : ℕ) → Keeps s (operation-written s value)
 operation-keeps s value = then (record { same = refl }) (mode-keeps _ _)
 
-applied-keeps : (w : Written) (s : Bma150) (address value : ℕ) (now : Time) → Keeps s (applied w s address value now)
+applied-keeps : (w : Written) (s : Sensor) (address value : ℕ) (now : Time) → Keeps s (applied w s address value now)
 unfolding applied
 applied-keeps Written.Ignored s address value now = itself s
 applied-keeps Written.Stored s address value now = itself s
@@ -141,36 +143,36 @@ applied-keeps Written.Operation s address value now = operation-keeps s value
 applied-keeps Written.Durations s address value now = record { same = refl }
 applied-keeps Written.Plain s address value now = record { same = refl }
 
-pub followed-keeps : (w : Written) (s : Bma150) (address value : ℕ) (now : Time) → Keeps s (followed w s address value now)
+pub followed-keeps : (w : Written) (s : Sensor) (address value : ℕ) (now : Time) → Keeps s (followed w s address value now)
 followed-keeps w s address value now = then (applied-keeps w s address value now) (automatic-keeps _ now _ false)
 
 -- ---- samples
 
-advanced-keeps : (s : Bma150) (end : Time) (n : ℕ) → Keeps s (advanced s end n)
+advanced-keeps : (s : Sensor) (end : Time) (n : ℕ) → Keeps s (advanced s end n)
 unfolding advanced
 advanced-keeps s end n = pick (eqb n 0) (itself s) (then (record { same = refl }) (automatic-keeps _ end false false))
 
-pub sync-keeps : (s : Bma150) (end : Time) (inclusive : Bool) → Keeps s (sync-local-until s end inclusive)
+pub sync-keeps : (s : Sensor) (end : Time) (inclusive : Bool) → Keeps s (sync-local-until s end inclusive)
 unfolding sync-local-until
 sync-keeps s end inclusive = pick (lags s) (advanced-keeps s end _) (itself s)
 
 -- ---- reads, select and the output
 
-pub fetched-keeps : (v : View) (s : Bma150) (address : ℕ) → Keeps s (fetched v s address .sensor)
+pub fetched-keeps : (v : View) (s : Sensor) (address : ℕ) → Keeps s (fetched v s address .sensor)
 unfolding fetched
 fetched-keeps (View.Byte b) s address = record { same = refl }
 fetched-keeps View.Withheld s address = record { same = refl }
 
-pub noted-keeps : (t : Sent) (s : Bma150) (address : ℕ) → Keeps s (noted t s address)
+pub noted-keeps : (t : Sent) (s : Sensor) (address : ℕ) → Keeps s (noted t s address)
 unfolding noted
 noted-keeps Sent.Nothing s address = itself s
 noted-keeps (Sent.Byte b) s address = pick (notes s address) (record { same = refl }) (itself s)
 
 -- the select pin is the one asked for
 abbrev pub with-selected : Core → Bool → Core
-with-selected k b = record { cells = k .cells; writing = k .writing; supply = k .supply; input = k .input; selected = b; last = k .last }
+with-selected k b = record { cells = k .cells; writing = k .writing; supply = k .supply; kept = k .kept; selected = b }
 
-pub select-core : (s : Bma150) (b : Bool) → core (selected-to s b) ≡ with-selected (core s) b
+pub select-core : (s : Sensor) (b : Bool) → core (selected-to s b) ≡ with-selected (core s) b
 unfolding selected-to F.differs
 select-core s b = go (s .frame .selected) b refl
   where
@@ -190,31 +192,31 @@ shifted-selected f tx = go (f .serial)
     go (Serial.Read a) = refl
     go (Serial.Write a) = refl
 
-pub framed-keeps : (s : Bma150) (f : Frame) → f .selected ≡ s .frame .selected → Keeps s (with-frame s f)
+pub framed-keeps : (s : Sensor) (f : Frame) → f .selected ≡ s .frame .selected → Keeps s (with-frame s f)
 framed-keeps s f e = record { same = ap (λ (x : Bool). with-selected (core s) x) e }
 
-moved-keeps : (m : Shift) (s : Bma150) → Keeps s (moved m s)
+moved-keeps : (m : Shift) (s : Sensor) → Keeps s (moved m s)
 unfolding moved
 moved-keeps Shift.Stay s = itself s
 moved-keeps (Shift.Fetch a) s = then (fetched-keeps _ s a) (framed-keeps _ _ (shifted-selected _ _))
 moved-keeps Shift.Next s = framed-keeps s _ (shifted-selected _ _)
 
-pub shift-keeps : (s : Bma150) (at : Clocked) → Keeps s (shift-output s at)
+pub shift-keeps : (s : Sensor) (at : Clocked) → Keeps s (shift-output s at)
 shift-keeps s at = moved-keeps _ s
 
-pub rise-synced-keeps : (s : Bma150) (now : Time) → Keeps s (rise-synced s now)
+pub rise-synced-keeps : (s : Sensor) (now : Time) → Keeps s (rise-synced s now)
 unfolding rise-synced
 rise-synced-keeps s now = pick (spi-listens s && F.consumes-at-rise (s .frame)) (sync-keeps s now true) (itself s)
 
-pub pins-synced-keeps : (s : Bma150) (e : Edge) (now : Time) → Keeps s (pins-synced s e now)
+pub pins-synced-keeps : (s : Sensor) (e : Edge) (now : Time) → Keeps s (pins-synced s e now)
 unfolding pins-synced
 pins-synced-keeps s e now = pick (i2c-listens s && (E.consumes-conversion (s .i2c) e && not (is-quiet s))) (sync-keeps s now true) (itself s)
 
-fall-synced-keeps : (s : Bma150) (now : Time) → Keeps s (fall-synced s now)
+fall-synced-keeps : (s : Sensor) (now : Time) → Keeps s (fall-synced s now)
 unfolding fall-synced
 fall-synced-keeps s now = pick (spi-listens s && F.consumes-at-fall (s .frame) (four-wire s)) (sync-keeps s now true) (itself s)
 
-pub falling-keeps : (s : Bma150) (now : Time) → Keeps s (falling-at s now)
+pub falling-keeps : (s : Sensor) (now : Time) → Keeps s (falling-at s now)
 unfolding falling-effect
 falling-keeps s now =
     let t = fall-synced s now in
@@ -222,32 +224,32 @@ falling-keeps s now =
 
 -- ---- the steps of a due call but the end of a write
 
-pub waits-keeps : (s : Bma150) (now : Time) → Keeps s (pause-ended (waits-ended s now) now)
+pub waits-keeps : (s : Sensor) (now : Time) → Keeps s (pause-ended (waits-ended s now) now)
 unfolding pause-ended
 waits-keeps s now =
     let t = waits-ended s now in
     then {t = t} (record { same = refl }) (pick (is-at (t .deadlines .pause) now) (record { same = refl }) (itself t))
 
-image-ended-keeps : (s : Bma150) (now : Time) → Keeps s (image-ended s now)
+image-ended-keeps : (s : Sensor) (now : Time) → Keeps s (image-ended s now)
 unfolding image-ended
 image-ended-keeps s now = pick (is-at (s .deadlines .image) now) (record { same = refl }) (itself s)
 
-wake-ended-keeps : (s : Bma150) (now : Time) → Keeps s (wake-ended s now)
+wake-ended-keeps : (s : Sensor) (now : Time) → Keeps s (wake-ended s now)
 unfolding wake-ended
 wake-ended-keeps s now = pick (is-at (s .deadlines .wake) now) (record { same = refl }) (itself s)
 
-sample-ended-keeps : (s : Bma150) (now : Time) → Keeps s (sample-ended s now)
+sample-ended-keeps : (s : Sensor) (now : Time) → Keeps s (sample-ended s now)
 unfolding sample-ended
 sample-ended-keeps s now = pick (sample-is s now) (record { same = refl }) (itself s)
 
-sample-keeps : (s : Bma150) (now : Time) (was hold : Bool) → Keeps s (sample-served s now was hold)
+sample-keeps : (s : Sensor) (now : Time) (was hold : Bool) → Keeps s (sample-served s now was hold)
 sample-keeps s now was hold = then (sample-ended-keeps s now) (automatic-keeps _ now was _)
 
-pub rest-keeps : (s : Bma150) (now : Time) (was hold : Bool) → Keeps s (sample-served (wake-ended (image-ended s now) now) now was hold)
+pub rest-keeps : (s : Sensor) (now : Time) (was hold : Bool) → Keeps s (sample-served (wake-ended (image-ended s now) now) now was hold)
 rest-keeps s now was hold = then (image-ended-keeps s now) (then (wake-ended-keeps _ now) (sample-keeps _ now was hold))
 
 -- ---- a warm return's wake
 
-pub woken-keeps : (s : Bma150) (now : Time) → Keeps s (woken s now)
+pub woken-keeps : (s : Sensor) (now : Time) → Keeps s (woken s now)
 unfolding woken
 woken-keeps s now = pick (s .sampling .asleep) (itself s) (record { same = refl })

@@ -5,6 +5,5 @@ pub mod Sound
 pub mod Steps
 pub mod Lists
 pub mod Examples
-pub mod Buffer
 pub mod Replies
 pub mod Functions

@@ -1,4 +1,4 @@
--- What a due call and a supply call do to the six parts. Assumes nothing.
+-- What a due call and a supply call do to the five parts. Assumes nothing.
 use Prim.Native.Nat.{ℕ}
 use mathlib.Core.Path.{_≡_, refl, ap, _∙_}
 use mathlib.Core.Bool.{Bool, true, false, cond}
@@ -10,26 +10,26 @@ use Rattle.nv.specs.Cell.{cell-of}
 use Rattle.nv.specs.Cycle as Cycle
 use Rattle.deadlines.specs.declared.Deadline.the-variants.{At, Never}
 use Rattle.deadlines.specs.Deadlines.{is-set}
-use Rattle.bma150.specs.declared.types.Operation.{Operation}
-use Rattle.bma150.specs.declared.types.Operation.the-variants as Operation
-use Rattle.bma150.specs.declared.types.Supply.{Supply}
-use Rattle.bma150.specs.declared.types.Bma150.{Bma150}
-use Rattle.bma150.specs.Record.{is-off}
-use Rattle.bma150.specs.Image.{cell, with-cell}
-use Rattle.bma150.specs.Control.{criterion}
-use Rattle.bma150.specs.Serial.{may-select}
-use Rattle.bma150.specs.Supply.{silently, cut, power-off, drained, warm-return, cold-return, returned, lowered, raised, set-supply}
-use Rattle.bma150.specs.Due.{waits-ended, pause-ended, completed, write-ended, hold-is, at-deadline}
+use Rattle.sensor.specs.declared.types.Operation.{Operation}
+use Rattle.sensor.specs.declared.types.Operation.the-variants as Operation
+use Rattle.sensor.specs.declared.types.Supply.{Supply}
+use Rattle.sensor.specs.declared.types.Sensor.{Sensor}
+use Rattle.sensor.specs.Record.{is-off}
+use Rattle.sensor.specs.Image.{cell, with-cell}
+use Rattle.sensor.specs.Mode.{criterion}
+use Rattle.sensor.specs.Select.{may-select}
+use Rattle.waits.specs.Supply.{silently, cut, power-off, drained, warm-return, cold-return, returned, lowered, raised, set-supply}
+use Rattle.waits.specs.Due.{waits-ended, pause-ended, completed, write-ended, hold-is, at-deadline}
 use Rattle.runs.proofs.Keeps.{Core, core, with-selected, select-core, waits-keeps, rest-keeps, woken-keeps}
 
 -- ---- parts replaced
 
 abbrev pub supplied-by : Core → Supply → Core
-supplied-by k x = record { cells = k .cells; writing = k .writing; supply = x; input = k .input; selected = k .selected; last = k .last }
+supplied-by k x = record { cells = k .cells; writing = k .writing; supply = x; kept = k .kept; selected = k .selected }
 
 -- a write is over, with these cells
 abbrev pub over : Core → List ℕ → Core
-over k cells = record { cells = cells; writing = record { operation = Operation.Idle }; supply = k .supply; input = k .input; selected = k .selected; last = k .last }
+over k cells = record { cells = cells; writing = record { operation = Operation.Idle }; supply = k .supply; kept = k .kept; selected = k .selected }
 
 abbrev pub off : Core → Bool
 off k = is-set (k .supply .«unpowered_since»)
@@ -40,7 +40,7 @@ unfoldable pub ended : Operation → Core → Time → Core
 ended Operation.Idle k now = k
 ended (Operation.Running w a v) k now = cond (same (Cycle.deadline w) now) (over k (with-cell (k .cells) a v)) k
 
-ended-is : (op : Operation) (s : Bma150) (now : Time) → core (write-ended op s now .sensor) ≡ ended op (core s) now
+ended-is : (op : Operation) (s : Sensor) (now : Time) → core (write-ended op s now .sensor) ≡ ended op (core s) now
 unfolding write-ended ended
 ended-is Operation.Idle s now = refl
 ended-is (Operation.Running w a v) s now = go (same (Cycle.deadline w) now)
@@ -49,7 +49,7 @@ ended-is (Operation.Running w a v) s now = go (same (Cycle.deadline w) now)
     go true = refl
     go false = refl
 
-pub due-is : (s : Bma150) (now : Time) → core (at-deadline s now .sensor) ≡ ended (s .writing .operation) (core s) now
+pub due-is : (s : Sensor) (now : Time) → core (at-deadline s now .sensor) ≡ ended (s .writing .operation) (core s) now
 due-is s now =
     let p = pause-ended (waits-ended s now) now in
     rest-keeps (write-ended (p .writing .operation) p now .sensor) now (criterion s) (hold-is s now) .same
@@ -68,8 +68,8 @@ lost k now cold = supplied-by (with-selected (cut-to (k .writing .operation) k n
 abbrev pub emptied : Core → Core
 emptied k = supplied-by k (record { «unpowered_since» = k .supply .«unpowered_since»; cold = true })
 
-abbrev pub cold-again : Core → Time → Core
-cold-again k now = record { cells = k .cells; writing = record { operation = Operation.Idle }; supply = record { «unpowered_since» = Never; cold = false }; input = k .input; selected = false; last = now }
+abbrev pub cold-again : Core → Core
+cold-again k = record { cells = k .cells; writing = record { operation = Operation.Idle }; supply = record { «unpowered_since» = Never; cold = false }; kept = k .kept; selected = false }
 
 abbrev pub warm-again : Core → Core
 warm-again k = supplied-by k (record { «unpowered_since» = Never; cold = k .supply .cold })
@@ -78,40 +78,40 @@ abbrev pub supply-to : Core → ℕ → Time → Core
 supply-to k rail now =
     cond (ltb rail 2400)
     (cond (off k) (cond (eqb rail 0) (emptied k) k) (lost k now (eqb rail 0)))
-    (cond (off k) (cond (k .supply .cold) (cold-again k now) (warm-again k)) k)
+    (cond (off k) (cond (k .supply .cold) (cold-again k) (warm-again k)) k)
 
-cut-is : (op : Operation) (s : Bma150) (now : Time) → core (cut op s now .sensor) ≡ cut-to op (core s) now
+cut-is : (op : Operation) (s : Sensor) (now : Time) → core (cut op s now .sensor) ≡ cut-to op (core s) now
 unfolding cut cut-to
 cut-is Operation.Idle s now = refl
 cut-is (Operation.Running w a v) s now = refl
 
-lost-is : (s : Bma150) (now : Time) (cold : Bool) → core (power-off s now cold .sensor) ≡ lost (core s) now cold
+lost-is : (s : Sensor) (now : Time) (cold : Bool) → core (power-off s now cold .sensor) ≡ lost (core s) now cold
 unfolding may-select
 lost-is s now cold =
     let c = cut (s .writing .operation) s now .sensor in
     ap (λ (k : Core). supplied-by k (record { «unpowered_since» = At now; cold = cold }))
     (select-core c false ∙ ap (λ (k : Core). with-selected k false) (cut-is (s .writing .operation) s now))
 
-emptied-is : (s : Bma150) (zero : Bool) → core (drained s zero) ≡ cond zero (emptied (core s)) (core s)
+emptied-is : (s : Sensor) (zero : Bool) → core (drained s zero) ≡ cond zero (emptied (core s)) (core s)
 unfolding drained
 emptied-is s true = refl
 emptied-is s false = refl
 
-returned-is : (s : Bma150) (now : Time) → core (returned s now) ≡ cond (s .supply .cold) (cold-again (core s) now) (warm-again (core s))
+returned-is : (s : Sensor) (now : Time) → core (returned s now) ≡ cond (s .supply .cold) (cold-again (core s)) (warm-again (core s))
 unfolding returned
 returned-is s now = go (s .supply .cold)
   where
-    go : (b : Bool) → core (cond b (cold-return s now) (warm-return s now)) ≡ cond b (cold-again (core s) now) (warm-again (core s))
+    go : (b : Bool) → core (cond b (cold-return s now) (warm-return s now)) ≡ cond b (cold-again (core s)) (warm-again (core s))
     go true = refl
     go false = woken-keeps _ now .same
 
-pub supply-is : (s : Bma150) (rail : ℕ) (now : Time) → core (set-supply s rail now .sensor) ≡ supply-to (core s) rail now
+pub supply-is : (s : Sensor) (rail : ℕ) (now : Time) → core (set-supply s rail now .sensor) ≡ supply-to (core s) rail now
 unfolding set-supply lowered raised
 supply-is s rail now = go (ltb rail 2400) (is-off s)
   where
     go : (low out : Bool)
         → core (cond low (cond out (silently (drained s (eqb rail 0))) (power-off s now (eqb rail 0))) (silently (cond out (returned s now) s)) .sensor)
-        ≡ cond low (cond out (cond (eqb rail 0) (emptied (core s)) (core s)) (lost (core s) now (eqb rail 0))) (cond out (cond (s .supply .cold) (cold-again (core s) now) (warm-again (core s))) (core s))
+        ≡ cond low (cond out (cond (eqb rail 0) (emptied (core s)) (core s)) (lost (core s) now (eqb rail 0))) (cond out (cond (s .supply .cold) (cold-again (core s)) (warm-again (core s))) (core s))
     go true true = emptied-is s (eqb rail 0)
     go true false = lost-is s now (eqb rail 0)
     go false true = returned-is s now

@@ -1,4 +1,4 @@
--- A pin call changes the running write alone of the six parts, and as the book says. Assumes nothing.
+-- A pin call changes the running write alone of the five parts, and as the book says. Assumes nothing.
 use Prim.Native.Nat.{ℕ, _%_}
 use mathlib.Core.Path.{_≡_, refl, sym, ap, subst, _∙_}
 use mathlib.Core.Bool.{Bool, true, false, cond, not, _&&_}
@@ -28,23 +28,25 @@ use Rattle.spi.specs.Frame as F
 use Rattle.control.specs.declared.types.Written.{Written}
 use Rattle.control.specs.declared.types.Written.the-variants as Written
 use Rattle.control.specs.Begins.{is-stored, stored-begins}
-use Rattle.bma150.specs.declared.types.Operation.the-variants as Operation
-use Rattle.bma150.specs.declared.types.Writing.{Writing}
-use Rattle.bma150.specs.declared.types.Bma150.{Bma150}
-use Rattle.bma150.specs.Record.{with-writing, with-frame, with-i2c, is-quiet, is-copying, is-writing, four-wire}
-use Rattle.bma150.specs.Writes.{taken, written, write-register}
-use Rattle.bma150.specs.Bytes.{peek, notes, read-noted, noted, acknowledge-read}
-use Rattle.bma150.specs.Serial.{first-bit, write-done, bit-done, bit-taken, turned, shift-output, spi-listens, rising-effect, acted, stepped, ones-for, i2c-listens, i2c-pins}
-use Rattle.runs.specs.Book.{operation, spi-write, action-write, i2c-write, accepted-write, of-write}
+use Rattle.sensor.specs.declared.types.Operation.the-variants as Operation
+use Rattle.sensor.specs.declared.types.Writing.{Writing}
+use Rattle.sensor.specs.declared.types.Sensor.{Sensor}
+use Rattle.sensor.specs.Record.{with-writing, with-frame, with-i2c, is-quiet, is-copying, is-writing, four-wire}
+use Rattle.writes.specs.Write.{taken, write-kind, write-register}
+use Rattle.sensor.specs.Bytes.{peek, notes, read-noted, noted, acknowledge-read}
+use Rattle.serial.specs.SpiEdges.{first-bit, write-done, bit-done, bit-taken, turned, shift-output, spi-listens, rising-effect}
+use Rattle.serial.specs.I2cPins.{acted, stepped, ones-for, i2c-listens, i2c-pins}
+use Rattle.runs.specs.Does.{spi-write, action-write, i2c-write}
+use Rattle.runs.specs.Book.{operation, accepted-write, of-write}
 use Rattle.runs.proofs.Keeps.{Keeps, then, itself, followed-keeps, framed-keeps, shift-keeps, noted-keeps, fetched-keeps}
 
 -- the running write after this register write
-abbrev pub begun-writing : Write → Bma150 → Time → Writing
+abbrev pub begun-writing : Write → Sensor → Time → Writing
 begun-writing w s now = cond (accepted-write w s (is-writing s)) (record { operation = operation (of-write w now) }) (s .writing)
 
 -- ---- a register write
 
-taken-keeps : (w : Written) (s : Bma150) (address value : ℕ) (now : Time)
+taken-keeps : (w : Written) (s : Sensor) (address value : ℕ) (now : Time)
     → Keeps (with-writing s (cond (is-stored w) (record { operation = Operation.Running (Cycle.start now) address value }) (s .writing))) (taken w s address value now)
 unfolding taken is-stored
 taken-keeps Written.Ignored s address value now = record { same = refl }
@@ -56,13 +58,13 @@ taken-keeps Written.Operation s address value now = followed-keeps Written.Opera
 taken-keeps Written.Durations s address value now = followed-keeps Written.Durations s address value now
 taken-keeps Written.Plain s address value now = followed-keeps Written.Plain s address value now
 
-register-keeps : (s : Bma150) (address value : ℕ) (now : Time)
+register-keeps : (s : Sensor) (address value : ℕ) (now : Time)
     → Keeps (with-writing s (begun-writing (Write.Register address value) s now)) (write-register s address value now)
 unfolding accepted-write of-write operation
 register-keeps s address value now =
     subst (λ (b : Bool). Keeps (with-writing s (cond b (record { operation = Operation.Running (Cycle.start now) address value }) (s .writing))) (write-register s address value now))
     (stored-begins address value (at (s .registers) control) (is-quiet s) (is-copying s) (s .sampling .asleep) (is-writing s))
-    (taken-keeps (written s address value) s address value now)
+    (taken-keeps (write-kind s address value) s address value now)
 
 -- ---- SPI
 
@@ -97,14 +99,14 @@ acknowledges-read Serial.Address n a e = absurd (let z : _≡_ {A = ℕ} 0 1 = c
 acknowledges-read (Serial.Read b) n a e = (b, refl)
 acknowledges-read (Serial.Write b) n a e = absurd (let z : _≡_ {A = ℕ} 0 1 = cc in omega arith)
 
-done-keeps : (w : Write) (s : Bma150) (f : Frame) (now : Time) → f .selected ≡ s .frame .selected
+done-keeps : (w : Write) (s : Sensor) (f : Frame) (now : Time) → f .selected ≡ s .frame .selected
     → Keeps (with-writing s (begun-writing w s now)) (write-done w (with-frame s f) now)
 unfolding write-done accepted-write of-write operation
 done-keeps Write.Nothing s f now e = framed-keeps s f e
 done-keeps (Write.Register a v) s f now e = then (framed-keeps (with-writing s (begun-writing (Write.Register a v) s now)) f e) (register-keeps (with-frame s f) a v now)
 
 -- a bit, its write and the output
-bit-keeps : (t : Bma150) (mosi : Bool) (now : Time)
+bit-keeps : (t : Sensor) (mosi : Bool) (now : Time)
     → Keeps (with-writing t (begun-writing (F.take-bit (t .frame) mosi (four-wire t) .write) t now))
     (shift-output (bit-done (F.take-bit (t .frame) mosi (four-wire t)) t now) Clocked.Rise)
 bit-keeps t mosi now =
@@ -112,7 +114,7 @@ bit-keeps t mosi now =
     (shift-keeps _ Clocked.Rise)
 
 -- a noted read leaves the frame
-noted-frame : (x : Sent) (s : Bma150) (a : ℕ) → noted x s a .frame ≡ s .frame
+noted-frame : (x : Sent) (s : Sensor) (a : ℕ) → noted x s a .frame ≡ s .frame
 unfolding noted
 noted-frame Sent.Nothing s a = refl
 noted-frame (Sent.Byte b) s a = go (notes s a)
@@ -122,12 +124,12 @@ noted-frame (Sent.Byte b) s a = go (notes s a)
     go false = refl
 
 -- no write begins where nothing is written
-nothing-begun : (w : Write) (s : Bma150) (now : Time) → w ≡ Write.Nothing → begun-writing w s now ≡ s .writing
+nothing-begun : (w : Write) (s : Sensor) (now : Time) → w ≡ Write.Nothing → begun-writing w s now ≡ s .writing
 unfolding accepted-write
 nothing-begun Write.Nothing s now e = refl
 nothing-begun (Write.Register a v) s now e = absurd (let z : _≡_ {A = ℕ} 0 1 = cc in omega arith)
 
-taken-bit-keeps : (s : Bma150) (mosi : Bool) (now : Time)
+taken-bit-keeps : (s : Sensor) (mosi : Bool) (now : Time)
     → Keeps (with-writing s (begun-writing (F.take-bit (s .frame) mosi (four-wire s) .write) s now)) (bit-taken s mosi now)
 unfolding first-bit
 taken-bit-keeps s mosi now = go (F.acknowledges (s .frame .serial) (s .frame .«rx_bits»)) refl
@@ -147,7 +149,7 @@ taken-bit-keeps s mosi now = go (F.acknowledges (s .frame .serial) (s .frame .«
         subst (λ (x : Writing). Keeps (with-writing s x) (shift-output (bit-done (F.take-bit (t .frame) mosi (four-wire t)) t now) Clocked.Rise)) (sym p) (then (noted-keeps (s .frame .tx) s a) m)
 
 -- a rise
-pub rising-keeps : (s : Bma150) (mosi : Bool) (now : Time) → Keeps (with-writing s (begun-writing (spi-write s mosi) s now)) (rising-effect s mosi now)
+pub rising-keeps : (s : Sensor) (mosi : Bool) (now : Time) → Keeps (with-writing s (begun-writing (spi-write s mosi) s now)) (rising-effect s mosi now)
 unfolding rising-effect spi-write accepted-write
 rising-keeps s mosi now = go (spi-listens s) (s .frame .turnaround)
   where
@@ -161,7 +163,7 @@ rising-keeps s mosi now = go (spi-listens s) (s .frame .turnaround)
 
 -- ---- I2C
 
-acted-keeps : (a : Action) (s : Bma150) (x : State) (now : Time) → Keeps (with-writing s (begun-writing (action-write a) s now)) (acted a (with-i2c s x) now)
+acted-keeps : (a : Action) (s : Sensor) (x : State) (now : Time) → Keeps (with-writing s (begun-writing (action-write a) s now)) (acted a (with-i2c s x) now)
 unfolding acted action-write accepted-write of-write operation
 acted-keeps Action.Nothing s x now = record { same = refl }
 acted-keeps Action.Drop s x now = record { same = refl }
@@ -169,7 +171,7 @@ acted-keeps (Action.Write r v) s x now = then {t = with-writing (with-i2c s x) (
 acted-keeps (Action.Launch r) s x now = then {t = with-i2c s x} (record { same = refl }) (then (fetched-keeps (peek (with-i2c s x) r) (with-i2c s x) r) (record { same = refl }))
 acted-keeps (Action.Acknowledge r) s x now = then {t = with-i2c s x} (record { same = refl }) (noted-keeps (s .frame .tx) (with-i2c s x) r)
 
-pub pins-keeps : (s : Bma150) (e : Edge) (now : Time) → Keeps (with-writing s (begun-writing (i2c-write s e) s now)) (i2c-pins s e now)
+pub pins-keeps : (s : Sensor) (e : Edge) (now : Time) → Keeps (with-writing s (begun-writing (i2c-write s e) s now)) (i2c-pins s e now)
 unfolding i2c-pins i2c-write accepted-write
 pins-keeps s e now = go (i2c-listens s)
   where

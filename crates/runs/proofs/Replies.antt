@@ -3,9 +3,10 @@ use Prim.Native.Nat.{ℕ}
 use mathlib.Core.Path.{_≡_, refl, sym, ap, _∙_}
 use mathlib.Core.List.{List, [], _∷_}
 use Rattle.time.specs.declared.Time.{Time}
-use Rattle.bma150.specs.declared.types.Bma150.{Bma150}
-use Rattle.runs.specs.Calls.{Call, step, Answer, answer}
-use Rattle.runs.specs.Lists.{Start, started, after, answers, AllDeclared}
+use Rattle.calls.specs.declared.types.Call.{Call}
+use Rattle.calls.specs.declared.types.Call.the-variants as Call
+use Rattle.bma150.specs.declared.host.Bma150.{Bma150}
+use Rattle.runs.specs.Lists.{step, Answer, answer, Start, started, after, answers, AllDeclared}
 use Rattle.runs.specs.Claim.{ending, left, stored-bytes}
 use Rattle.runs.specs.Replies.{Host, Run, Meets, HostClaim}
 use Rattle.runs.proofs.Lists.{claim}
@@ -22,10 +23,10 @@ module _ (m : Host) (h : Meets m) where
 
   -- the bytes put in the buffer after a list
   put-is : (b : Start) (cs : List Call) (now : Time) (rail : ℕ) {s t u : Bma150} {out : List Answer} {a : Answer} → m .starts b s → Run m s (ending cs now rail) out t
-      → m .calls t (Call.stored-image now 19) u a → a .put ≡ stored-bytes b cs now rail
+      → m .calls t (Call.StoredImage now 19) u a → a .adds ≡ stored-bytes b cs now rail
   put-is b cs now rail p q r =
-      ap (λ (x : Answer). x .put) (h .steps r .1)
-      ∙ ap (λ (x : Bma150). answer x (Call.stored-image now 19) .put) (ran-is q .1 ∙ ap (λ (x : Bma150). after x (ending cs now rail)) (h .starting p))
+      ap (λ (x : Answer). x .adds) (h .steps r .1)
+      ∙ ap (λ (x : Bma150). answer x (Call.StoredImage now 19) .adds) (ran-is q .1 ∙ ap (λ (x : Bma150). after x (ending cs now rail)) (h .starting p))
 
   left-is : (b : Start) (cs : List Call) (now : Time) (rail : ℕ) {s t : Bma150} {out : List Answer} → m .starts b s → Run m s (ending cs now rail) out t → t ≡ left b cs now rail
   left-is b cs now rail p q = ran-is q .1 ∙ ap (λ (x : Bma150). after x (ending cs now rail)) (h .starting p)
@@ -39,11 +40,11 @@ module _ (m : Host) (h : Meets m) where
 
   pub host-claim : HostClaim m
   host-claim = record {
-    kept = λ b cs now rail g p q r. put-is b cs now rail p q r ∙ claim .kept b cs now rail g;
-    same = λ b d cs ds now rail power g k p q r x y z bytes acceleration temperature further f e.
+    stored = λ b cs now rail g p q r. put-is b cs now rail p q r ∙ claim .stored b cs now rail g;
+    same = λ b d cs ds now rail power g k p q r x y z bytes same further f e.
         ran-is f .0
         ∙ ap (λ (s : Bma150). answers s further) (left-is b cs now rail p q)
-        ∙ claim .same b d cs ds now rail power g k (sym (put-is b cs now rail p q r) ∙ bytes ∙ put-is d ds now power x y z) acceleration temperature further
+        ∙ claim .same b d cs ds now rail power g k (sym (put-is b cs now rail p q r) ∙ bytes ∙ put-is d ds now power x y z) same further
         ∙ sym (ran-is e .0 ∙ ap (λ (s : Bma150). answers s further) (left-is d ds now power x y));
     run = λ b cs d. let p = h .begins b in let q = runs-on (p .0) cs d in (p .0, p .1, q .0, q .1, q .2);
   }

@@ -19,13 +19,22 @@ use Rattle.deadlines.specs.declared.Deadline.{Deadline}
 use Rattle.deadlines.specs.declared.Deadline.the-variants.{At, Never}
 use Rattle.deadlines.specs.Deadlines.{is-at, is-by, earliest}
 use Rattle.deadlines.specs.Earliest.{earliest-by-each}
-use Rattle.bma150.specs.declared.types.Operation.{Operation}
-use Rattle.bma150.specs.declared.types.Operation.the-variants as Operation
-use Rattle.bma150.specs.declared.types.Bma150.{Bma150}
-use Rattle.bma150.specs.Record.{with-writing, is-off, automatic}
-use Rattle.bma150.specs.Record as Record
-use Rattle.bma150.specs.Samples.{write-end, sample-due, next-deadline, interaction-deadline}
-use Rattle.refusals.specs.Table as T
+use Rattle.sensor.specs.declared.types.Operation.{Operation}
+use Rattle.sensor.specs.declared.types.Operation.the-variants as Operation
+use Rattle.sensor.specs.declared.types.Sensor.{Sensor}
+use Rattle.sensor.specs.Record.{with-writing, is-off, automatic}
+use Rattle.sensor.specs.Record as Record
+use Rattle.writes.specs.Samples.{write-end, sample-due, next-deadline, interaction-deadline}
+use Rattle.calls.specs.Table as T
+use Rattle.calls.specs.declared.types.Call.{Call}
+use Rattle.calls.specs.declared.types.Kind.the-variants as Kind
+use Rattle.calls.specs.declared.types.Dated.the-variants as Dated
+use Rattle.calls.specs.declared.types.Bytes.the-variants as Bytes
+use Rattle.calls.specs.declared.types.Axes.{Axes}
+use Rattle.calls.specs.declared.types.Facts.{Facts}
+use Rattle.calls.specs.Facts.{at, facts}
+use Rattle.calls.specs.Theorems.Left.{clear}
+use Rattle.bma150.specs.declared.host.Bma150.{Bma150}
 use Rattle.runs.specs.Book.{Running, Book, book, struck, operation, filled, completing, completed, closed}
 use Rattle.runs.specs.Book as B
 use Rattle.runs.proofs.Keeps.{Core, core}
@@ -38,7 +47,7 @@ running-of Operation.Idle = none
 running-of (Operation.Running w a v) = some (record { address = a; wanted = v; began = w .started })
 
 abbrev pub read : Bma150 → Book
-read s = book (s .nonvolatile) (running-of (s .writing .operation)) (struck s)
+read s = book (s .sensor .nonvolatile) (running-of (s .sensor .writing .operation)) (struck s)
 
 operation-running : (op : Operation) → operation (running-of op) ≡ op
 unfolding operation running-of
@@ -56,7 +65,7 @@ runs-running Operation.Idle = refl
 runs-running (Operation.Running w a v) = refl
 
 pub filled-read : (s : Bma150) → filled (read s) ≡ s
-filled-read s = ap (λ (o : Operation). with-writing s (record { operation = o })) (operation-running (s .writing .operation))
+filled-read s = ap (λ (o : Operation). record { sensor = with-writing (s .sensor) (record { operation = o }); last = s .last }) (operation-running (s .sensor .writing .operation))
 
 -- ---- what holds of every sensor of a list: a write runs only with supply and its end does not wrap; with supply nothing cold is due; without it SPI is deselected
 
@@ -74,7 +83,7 @@ pub record Sound (k : Core) : Type 0 where
 abbrev end-of : WriteCycle → ℕ
 end-of w = ticks (w .started) + write-length
 
-ends-by : (s : Bma150) (w : WriteCycle) (a v : ℕ) → s .writing .operation ≡ Operation.Running w a v → is-off s ≡ false
+ends-by : (s : Sensor) (w : WriteCycle) (a v : ℕ) → s .writing .operation ≡ Operation.Running w a v → is-off s ≡ false
     → is-by (interaction-deadline s) (Cycle.deadline w) ≡ true
 unfolding next-deadline write-end
 ends-by s w a v e o = go (is-off s) (earliest (s .deadlines) (sample-due s (automatic s)) (write-end (s .writing .operation))) o p
@@ -109,15 +118,15 @@ until Never t now e p q r = absurd (let z : _≡_ {A = ℕ} 0 1 = cc in omega ar
 until (At u) t now e p q r = eq-le (ticks now) (ticks u) (ticks t) e (leb-true (ticks u) (ticks t) p) (eqb-true (ticks u) (ticks now) q) r
 
 -- ---- an accepted call other than the due call completes no write in the book
-pub not-over : (s : Bma150) → Sound (core s) → (now : Time) → is-by (interaction-deadline s) now ≡ false → completed (read s) now ≡ read s
+pub not-over : (s : Bma150) → Sound (core (s .sensor)) → (now : Time) → is-by (interaction-deadline (s .sensor)) now ≡ false → completed (read s) now ≡ read s
 unfolding completing running-of
-not-over s h now d = go (s .writing .operation) refl
+not-over s h now d = go (s .sensor .writing .operation) refl
   where
-    go : (op : Operation) → s .writing .operation ≡ op → completing (running-of op) (read s) now ≡ read s
+    go : (op : Operation) → s .sensor .writing .operation ≡ op → completing (running-of op) (read s) now ≡ read s
     go Operation.Idle e = refl
     go (Operation.Running w a v) e =
-        let f : (is-off s ≡ false) × (end-of w < 2 ^ 128) = subst (λ (o : Operation). Fine o (is-off s)) e (h .fine) in
-        let l : ticks now < end-of w = before (interaction-deadline s) (Cycle.deadline w) now (end-of w) (ends-by s w a v e (f .0)) d (ticks-time-below (end-of w) (f .1)) in
+        let f : (is-off (s .sensor) ≡ false) × (end-of w < 2 ^ 128) = subst (λ (o : Operation). Fine o (is-off (s .sensor))) e (h .fine) in
+        let l : ticks now < end-of w = before (interaction-deadline (s .sensor)) (Cycle.deadline w) now (end-of w) (ends-by (s .sensor) w a v e (f .0)) d (ticks-time-below (end-of w) (f .1)) in
         ap (λ (b : Bool). cond b (closed (read s) (record { address = a; wanted = v; began = w .started }) v) (read s)) (lt-leb (end-of w) (ticks now) l)
 
 -- a due call completes it in the book exactly where it ends at this moment
@@ -132,7 +141,7 @@ last-moment e n p = go (eqb e n) refl
         not-le true r = let z : eqb e n ≡ true = eq-eqb e n (le-antisymm (leb-true e n r) p) in cc
         not-le false r = refl
 
-pub over-now : (s : Bma150) → Sound (core s) → (now : Time) → is-at (interaction-deadline s) now ≡ true
+pub over-now : (s : Sensor) → Sound (core s) → (now : Time) → is-at (interaction-deadline s) now ≡ true
     → (w : WriteCycle) (a v : ℕ) → s .writing .operation ≡ Operation.Running w a v
     → leb (ticks (w .started) + write-length) (ticks now) ≡ same (Cycle.deadline w) now
 over-now s h now d w a v e =
@@ -151,42 +160,27 @@ end-fits now p q = plus-lt (ticks now) (2 ^ 32 * 2 ^ 64) write-length (2 ^ 128) 
 
 -- ---- acceptance
 
-pub record Timely (s : Bma150) (now : Time) : Type 0 where
+pub record Timely (s : Sensor) (now : Time) : Type 0 where
   pub early : T.late now ≡ false
   pub free : is-by (interaction-deadline s) now ≡ false
 
-pub timed-accepted : (s : Bma150) (now : Time) → eqb (T.refusal-of-timed (s .last) (interaction-deadline s) now) 0 ≡ true → Timely s now
-unfolding T.refusal-of-timed T.row T.due-before
-timed-accepted s now p =
-    let r = go (T.late now) (T.back (s .last) now) (is-by (interaction-deadline s) now) p in
-    record { early = r .0; free = r .1 }
-  where
-    go : (a b c : Bool) → eqb (cond a 3 (cond b 4 (cond c 5 0))) 0 ≡ true → (a ≡ false) × (c ≡ false)
-    go true b c q = (cc, cc)
-    go false true c q = (refl, cc)
-    go false false true q = (refl, cc)
-    go false false false q = (refl, refl)
+-- what the table finds not to be so of an accepted timed call
+module _ (last : Time) (s : Sensor) (now : Time) (c : Call) (p : eqb (T.refusal last (interaction-deadline s) c) 0 ≡ true) where
+  pub timely : (axes : Axes) → facts c ≡ record { kind = Kind.Timed; time = Dated.At now; bytes = Bytes.Nothing; axes = axes } → Timely s now
+  unfolding T.too-late T.before-due T.due-by
+  timely axes e =
+      let q = clear last (interaction-deadline s) c p in
+      record {
+        early = sym (ap (λ (f : Facts). T.too-late (f .time)) e) ∙ q .1 .0;
+        free = sym (ap (λ (f : Facts). T.before-due (interaction-deadline s) (f .kind) (f .time)) e) ∙ q .1 .1 .1 .1 .0;
+      }
 
-pub accelerations-accepted : (s : Bma150) (now : Time) (out : Bool)
-    → eqb (T.in-order (s .last) now (T.row out 2 (T.row (T.due-before (interaction-deadline s) now) 5 0))) 0 ≡ true → Timely s now
-unfolding T.row T.due-before
-accelerations-accepted s now out p =
-    let r = go (T.late now) (T.back (s .last) now) out (is-by (interaction-deadline s) now) p in
-    record { early = r .0; free = r .1 }
-  where
-    go : (a b o c : Bool) → eqb (cond a 3 (cond b 4 (cond o 2 (cond c 5 0)))) 0 ≡ true → (a ≡ false) × (c ≡ false)
-    go true b o c q = (cc, cc)
-    go false true o c q = (refl, cc)
-    go false false true c q = (refl, cc)
-    go false false false true q = (refl, cc)
-    go false false false false q = (refl, refl)
-
-pub due-accepted : (s : Bma150) (now : Time) → eqb (T.refusal-of-due (s .last) (interaction-deadline s) now) 0 ≡ true → is-at (interaction-deadline s) now ≡ true
-unfolding T.refusal-of-due T.row T.due-elsewhere
-due-accepted s now p = go (T.late now) (T.back (s .last) now) (is-at (interaction-deadline s) now) p
-  where
-    go : (a b c : Bool) → eqb (cond a 3 (cond b 4 (cond (not c) 6 0))) 0 ≡ true → c ≡ true
-    go true b c q = cc
-    go false true c q = cc
-    go false false true q = refl
-    go false false false q = cc
+  pub due-now : facts c ≡ at Kind.Due now → is-at (interaction-deadline s) now ≡ true
+  unfolding T.beside-due T.due-at
+  due-now e =
+      let q = clear last (interaction-deadline s) c p in
+      go (is-at (interaction-deadline s) now) (sym (ap (λ (f : Facts). T.beside-due (interaction-deadline s) (f .kind) (f .time)) e) ∙ q .1 .1 .1 .1 .1 .0)
+    where
+      go : (b : Bool) → not b ≡ false → b ≡ true
+      go true r = refl
+      go false r = sym r

@@ -1,6 +1,6 @@
 -- The write book (01, "Write book"). It never reads the stored bytes or the running write of the definitions' record. Assumes nothing.
 use Prim.Native.Nat.{ℕ, _+_, _-_}
-use mathlib.Core.Bool.{Bool, true, false, cond, not, _&&_}
+use mathlib.Core.Bool.{Bool, true, false, cond}
 use mathlib.Core.List.{List, [], _∷_}
 use mathlib.Core.Option.{Option, none, some}
 use lib.Dec.{leb, ltb}
@@ -11,23 +11,17 @@ use Rattle.nv.specs.Cell.{write-length, cell-of, byte}
 use Rattle.nv.specs.Cycle as Cycle
 use Rattle.registers.specs.Map.{at, control}
 use Rattle.registers.specs.Access.{begins}
-use Rattle.i2c.specs.declared.types.Edge.{Edge}
-use Rattle.i2c.specs.declared.types.Action.{Action}
-use Rattle.i2c.specs.declared.types.Action.the-variants as Action
-use Rattle.i2c.specs.Bus.{edge}
-use Rattle.i2c.specs.Engine as E
 use Rattle.spi.specs.declared.types.Write.{Write}
 use Rattle.spi.specs.declared.types.Write.the-variants as Write
-use Rattle.spi.specs.Frame as F
-use Rattle.bma150.specs.declared.types.Operation.{Operation}
-use Rattle.bma150.specs.declared.types.Operation.the-variants as Operation
-use Rattle.bma150.specs.declared.types.Bma150.{Bma150}
-use Rattle.bma150.specs.Record.{with-nonvolatile, with-writing, is-quiet, is-copying, four-wire}
-use Rattle.bma150.specs.Image.{cell, with-cell}
-use Rattle.bma150.specs.Serial.{spi-listens, rise-synced, i2c-listens, ones-for, pins-synced}
-use Rattle.bma150.specs.Calls.{synced}
-use Rattle.runs.specs.Calls.{Call, accepts, step}
-use Rattle.runs.specs.Lists.{Start, started}
+use Rattle.calls.specs.declared.types.Call.{Call}
+use Rattle.sensor.specs.declared.types.Operation.{Operation}
+use Rattle.sensor.specs.declared.types.Operation.the-variants as Operation
+use Rattle.sensor.specs.declared.types.Sensor.{Sensor}
+use Rattle.sensor.specs.Record.{with-nonvolatile, with-writing, is-quiet, is-copying}
+use Rattle.sensor.specs.Image.{cell, with-cell}
+use Rattle.bma150.specs.declared.host.Bma150.{Bma150}
+use Rattle.runs.specs.Does.{Does, Asked, does}
+use Rattle.runs.specs.Lists.{Start, started, accepts, step}
 
 -- ---- state: 19 cells, at most one running write, and the definitions' record with both struck out
 
@@ -48,7 +42,7 @@ abbrev pub with-rest : Book → Bma150 → Book
 with-rest k rest = book (k .cells) (k .running) rest
 
 abbrev pub struck : Bma150 → Bma150
-struck s = with-writing (with-nonvolatile s (replicate 19 0)) (record { operation = Operation.Idle })
+struck s = record { sensor = with-writing (with-nonvolatile (s .sensor) (replicate 19 0)) (record { operation = Operation.Idle }); last = s .last }
 
 -- at first the start image and no running write
 abbrev pub opened : Start → Book
@@ -61,31 +55,7 @@ operation none = Operation.Idle
 operation (some w) = Operation.Running (Cycle.start (w .began)) (w .address) (w .wanted)
 
 abbrev pub filled : Book → Bma150
-filled k = with-writing (with-nonvolatile (k .rest) (k .cells)) (record { operation = operation (k .running) })
-
--- ---- the register write that the pins make, read off the serial definitions
-
--- the sensor that meets the edge
-abbrev pub at-rise : Bma150 → Time → Bma150
-at-rise s now = rise-synced (synced s now) now
-
-abbrev pub at-pins : Bma150 → Edge → Time → Bma150
-at-pins s e now = pins-synced (synced s now) e now
-
--- SPI: the last rise of a write frame
-unfoldable pub spi-write : Bma150 → Bool → Write
-spi-write s mosi = cond (spi-listens s && not (s .frame .turnaround)) (F.take-bit (s .frame) mosi (four-wire s) .write) Write.Nothing
-
--- I2C: the eighth rise of a value byte
-unfoldable pub action-write : Action → Write
-action-write Action.Nothing = Write.Nothing
-action-write Action.Drop = Write.Nothing
-action-write (Action.Write register value) = Write.Register register value
-action-write (Action.Launch register) = Write.Nothing
-action-write (Action.Acknowledge register) = Write.Nothing
-
-unfoldable pub i2c-write : Bma150 → Edge → Write
-i2c-write s e = cond (i2c-listens s) (action-write (E.step (s .i2c) e (is-quiet s) (ones-for (s .frame .tx)) .action)) Write.Nothing
+filled k = record { sensor = with-writing (with-nonvolatile (k .rest .sensor) (k .cells)) (record { operation = operation (k .running) }); last = k .rest .last }
 
 -- ---- 01's sentences
 
@@ -106,15 +76,16 @@ unfoldable pub cutting : Option Running → Book → Time → Book
 cutting none k now = k
 cutting (some w) k now = closed k w (byte (cell (k .cells) (w .address)) (w .wanted) (cell-of (w .address)) (ticks now - ticks (w .began)))
 
-unfoldable pub supplied : Book → ℕ → Time → Book
-supplied k rail now = cond (ltb rail 2400) (cutting (k .running) k now) k
+unfoldable pub supplied : Option ℕ → Book → Time → Book
+supplied none k now = k
+supplied (some rail) k now = cond (ltb rail 2400) (cutting (k .running) k now) k
 
 -- a pin call from which the definitions accept a stored write begins it, t being the call's time; never while one runs in the book
 unfoldable pub runs : Option Running → Bool
 runs none = false
 runs (some w) = true
 
-unfoldable pub accepted-write : Write → Bma150 → Bool → Bool
+unfoldable pub accepted-write : Write → Sensor → Bool → Bool
 accepted-write Write.Nothing s running = false
 accepted-write (Write.Register address value) s running =
     begins address value (at (s .registers) control) (is-quiet s) (is-copying s) (s .sampling .asleep) running
@@ -123,27 +94,20 @@ unfoldable pub of-write : Write → Time → Option Running
 of-write Write.Nothing now = none
 of-write (Write.Register address value) now = some (record { address = address; wanted = value; began = now })
 
-unfoldable pub began : Book → Write → Bma150 → Time → Book
-began k w s now = cond (accepted-write w s (runs (k .running))) (book (k .cells) (of-write w now) (k .rest)) k
+unfoldable pub began : Book → Asked → Time → Book
+began k a now = cond (accepted-write (a .write) (a .meets) (runs (k .running))) (book (k .cells) (of-write (a .write) now) (k .rest)) k
 
--- what an accepted call changes, by kind; s is the filled record before it
-unfoldable pub changed : Book → Bma150 → Call → Book
-changed k s (Call.accelerations now x y z) = completed k now
-changed k s (Call.temperature t) = k
-changed k s (Call.supply now rail) = supplied (completed k now) rail now
-changed k s (Call.due now) = completed k now
-changed k s (Call.due-lent now) = completed k now
-changed k s (Call.select on) = k
-changed k s (Call.rising now mosi) = began (completed k now) (spi-write (at-rise s now) mosi) (at-rise s now) now
-changed k s (Call.falling now) = completed k now
-changed k s (Call.pins now b a) = began (completed k now) (i2c-write (at-pins s (edge b a) now) (edge b a)) (at-pins s (edge b a) now) now
-changed k s (Call.pins-lent now b a) = began (completed k now) (i2c-write (at-pins s (edge b a) now) (edge b a)) (at-pins s (edge b a) now) now
-changed k s (Call.view address) = k
-changed k s (Call.stored-image now length) = k
+-- what an accepted call changes, by what it does; s is the filled record before it. Only a timed call changes the book
+unfoldable pub changed-at : Option Time → Does → Book → Sensor → Book
+changed-at none d k s = k
+changed-at (some now) d k s = began (supplied (d .rail) (completed k now) now) (d .asks s) now
+
+abbrev pub changed : Book → Sensor → Call → Book
+changed k s c = changed-at (does c .time) (does c) k s
 
 -- a refused call changes nothing
 unfoldable pub entered : Book → Call → Book
-entered k c = cond (accepts (filled k) c) (with-rest (changed k (filled k) c) (struck (step (filled k) c))) k
+entered k c = cond (accepts (filled k) c) (with-rest (changed k (filled k .sensor) c) (struck (step (filled k) c))) k
 
 unfoldable pub booked : Book → List Call → Book
 booked k [] = k

@@ -1,4 +1,4 @@
-pub mod Calls
+pub mod Does
 pub mod Lists
 pub mod Book
 pub mod Claim

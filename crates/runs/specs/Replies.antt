@@ -2,11 +2,12 @@
 use Prim.Native.Nat.{ℕ}
 use mathlib.Core.Path.{_≡_}
 use mathlib.Core.List.{List, [], _∷_}
-use mathlib.Core.Option.{some}
+use Rattle.calls.specs.declared.types.Call.{Call}
+use Rattle.calls.specs.declared.types.Call.the-variants as Call
 use Rattle.time.specs.declared.Time.{Time}
-use Rattle.bma150.specs.declared.types.Bma150.{Bma150}
-use Rattle.runs.specs.Calls.{Call, Declared, step, Answer, answer}
-use Rattle.runs.specs.Lists.{Start, started, AllDeclared, acceleration, temperature, Returns}
+use Rattle.bma150.specs.declared.host.Bma150.{Bma150}
+use Rattle.bma150.specs.Called.{Added}
+use Rattle.runs.specs.Lists.{Declared, step, Answer, answer, Start, started, AllDeclared, kept, Returns}
 use Rattle.runs.specs.Book.{opened, booked}
 use Rattle.runs.specs.Claim.{ending}
 
@@ -29,13 +30,13 @@ pub record Meets (m : Host) : Type 1 where
 
 -- the claim of `Claim`, of every such run; and there is one for every start and every list
 pub record HostClaim (m : Host) : Type 1 where
-  pub kept : (b : Start) (cs : List Call) (now : Time) (rail : ℕ) → Returns b cs now rail
-      → {s t u : Bma150} {out : List Answer} {a : Answer} → m .starts b s → Run m s (ending cs now rail) out t → m .calls t (Call.stored-image now 19) u a
-      → a .put ≡ some (booked (opened b) (ending cs now rail) .cells)
+  pub stored : (b : Start) (cs : List Call) (now : Time) (rail : ℕ) → Returns b cs now rail
+      → {s t u : Bma150} {out : List Answer} {a : Answer} → m .starts b s → Run m s (ending cs now rail) out t → m .calls t (Call.StoredImage now 19) u a
+      → a .adds ≡ Added.put (booked (opened b) (ending cs now rail) .cells)
   pub same : (b d : Start) (cs ds : List Call) (now : Time) (rail power : ℕ) → Returns b cs now rail → Returns d ds now power
       → {r s t u v w : Bma150} {o p : List Answer} {a e : Answer}
-      → m .starts b r → Run m r (ending cs now rail) o s → m .calls s (Call.stored-image now 19) t a
-      → m .starts d u → Run m u (ending ds now power) p v → m .calls v (Call.stored-image now 19) w e
-      → a .put ≡ e .put → acceleration b cs ≡ acceleration d ds → temperature b cs ≡ temperature d ds
+      → m .starts b r → Run m r (ending cs now rail) o s → m .calls s (Call.StoredImage now 19) t a
+      → m .starts d u → Run m u (ending ds now power) p v → m .calls v (Call.StoredImage now 19) w e
+      → a .adds ≡ e .adds → kept b cs ≡ kept d ds
       → (further : List Call) {x y : Bma150} {f g : List Answer} → Run m s further f x → Run m v further g y → f ≡ g
   pub run : (b : Start) (cs : List Call) → AllDeclared cs → (s : Bma150) × m .starts b s × (out : List Answer) × (t : Bma150) × Run m s cs out t

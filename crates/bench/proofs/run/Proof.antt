@@ -61,7 +61,7 @@ after-block-requires-2 c κs = search needs
 returns-2 : tie.Need-returns-2 Inv-loop μ-loop
 returns-2 c = let t : least (c .before .before .before .before .before .before .before .before .before .before .before .before .before .before .before .args .over) ≤ length (c .before .before .before .before .before .before .before .before .before .before .before .before .before .before .before .args .input .now) - c .before .before .before .before .before .before .before .before .before .before .before .before .loop .at = rw (sym (c .before .before .before .before .before .before .before .before .before .before .before .before .before .least .ensures)) (c .before .before .before .before .before .before .before .before .before .before .before .loop-test .taken) in
     let adv : (c .before .before .before .before .before .before .before .before .before .before .before .before .loop .at + c .before .before .before .before .size .result ≤ length (c .before .before .before .before .before .before .before .before .before .before .before .before .before .before .before .args .input .now)) × (1 ≤ c .before .before .before .before .size .result) = advance (c .before .before .before .before .before .before .before .before .before .before .before .before .before .before .before .args .input .now) (c .before .before .before .before .before .before .before .before .before .before .before .before .loop .at) (least-some (c .before .before .before .before .before .before .before .before .before .before .before .before .before .before .before .args .over)) t (c .before .before .before .before .before .before .before .before .decode .ensures) (c .before .before .before .before .size .ensures) in
-    let b = went (c .before .before .before .before .before .before .before .before .before .before .before .before .loop .inv .2) t (c .before .before .before .before .before .before .before .before .before .before .if1 .left) (c .before .before .before .before .before .before .before .before .decode .ensures) (c .before .before .before .before .before .before .before .serve .ensures) (c .before .before .before .before .size .ensures) (sym (c .before .if2 .taken) ∙ c .before .before .is-bad .ensures) (c .before .before .before .before .before .write-line .ensures .0) in
+    let b = went (c .before .before .before .before .before .before .before .serve .result) (c .before .before .before .before .before .before .before .before .before .before .before .before .loop .inv .2) t (c .before .before .before .before .before .before .before .before .before .before .if1 .left) (c .before .before .before .before .before .before .before .before .decode .ensures) (c .before .before .before .before .before .before .before .serve .ensures) (c .before .before .before .before .size .ensures) (sym (c .before .if2 .taken) ∙ c .before .before .is-bad .ensures) (c .before .before .before .before .before .write-line .ensures .0) in
     let done = finished b (adv .0) (pace-stopped _ _ _ (stopped-turn _ _ refl)) in
     rw (c .after-block2 .ensures) (done .0, (done .1, (done .2, (adv .0, omega arith))))
 
@@ -73,7 +73,7 @@ loop-less c = let t : least (c .before .before .before .before .before .before .
 loop-again : tie.Need-loop-again Inv-loop μ-loop
 loop-again c = let t : least (c .before .before .before .before .before .before .before .before .before .before .before .before .before .before .args .over) ≤ length (c .before .before .before .before .before .before .before .before .before .before .before .before .before .before .args .input .now) - c .before .before .before .before .before .before .before .before .before .before .before .loop .at = rw (sym (c .before .before .before .before .before .before .before .before .before .before .before .before .least .ensures)) (c .before .before .before .before .before .before .before .before .before .before .loop-test .taken) in
     let adv : (c .before .before .before .before .before .before .before .before .before .before .before .loop .at + c .before .before .before .size .result ≤ length (c .before .before .before .before .before .before .before .before .before .before .before .before .before .before .args .input .now)) × (1 ≤ c .before .before .before .size .result) = advance (c .before .before .before .before .before .before .before .before .before .before .before .before .before .before .args .input .now) (c .before .before .before .before .before .before .before .before .before .before .before .loop .at) (least-some (c .before .before .before .before .before .before .before .before .before .before .before .before .before .before .args .over)) t (c .before .before .before .before .before .before .before .decode .ensures) (c .before .before .before .size .ensures) in
-    (adv .0, omega arith, went (c .before .before .before .before .before .before .before .before .before .before .before .loop .inv .2) t (c .before .before .before .before .before .before .before .before .before .if1 .left) (c .before .before .before .before .before .before .before .decode .ensures) (c .before .before .before .before .before .before .serve .ensures) (c .before .before .before .size .ensures) (sym (c .if2 .left) ∙ c .before .is-bad .ensures) (c .before .before .before .before .write-line .ensures .0))
+    (adv .0, omega arith, went (c .before .before .before .before .before .before .serve .result) (c .before .before .before .before .before .before .before .before .before .before .before .loop .inv .2) t (c .before .before .before .before .before .before .before .before .before .if1 .left) (c .before .before .before .before .before .before .before .decode .ensures) (c .before .before .before .before .before .before .serve .ensures) (c .before .before .before .size .ensures) (sym (c .if2 .left) ∙ c .before .is-bad .ensures) (c .before .before .before .before .write-line .ensures .0))
 
 after-block-requires-3 : tie.Need-after-block-requires-3 Inv-loop μ-loop
 after-block-requires-3 c κs = search needs

@@ -2,9 +2,9 @@ use Rattle.bench_stream.specs.declared.Turn.{Turn}
 use Prim.Native.Nat.{ℕ}
 use mathlib.Core.Path.{ap, _∙_}
 use mathlib.Core.List.{List}
-use Rattle.bma150.specs.Calls.{after-start}
+use Rattle.bma150.specs.Called.{after-start}
 use mathlib.Core.Bool.{false}
-use Rattle.bma150.specs.declared.types.Bma150.{Bma150}
+use Rattle.bma150.specs.declared.host.Bma150.{Bma150}
 use borrow.Author.Needs.{needs}
 use Rattle.bench_stream.proofs.begin.Statement.{statement}
 use Rattle.bench_stream.proofs.begin.Tie as tie

@@ -8,16 +8,16 @@ use borrow.Author.Needs.{needs}
 use Rattle.commands.proofs.decode.Statement.{statement}
 use Rattle.commands.proofs.decode.Tie as tie
 
-shared-slice-read-named : tie.Need-shared-slice-read-named
-shared-slice-read-named c = search needs
+shared-slice-read-decode-01-to-05 : tie.Need-shared-slice-read-decode-01-to-05
+shared-slice-read-decode-01-to-05 c = search needs
 
-named-requires : tie.Need-named-requires
-named-requires c κs = search needs
+decode-01-to-05-requires : tie.Need-decode-01-to-05-requires
+decode-01-to-05-requires c κs = search needs
 
 returns : tie.Need-returns
 unfolding decoded
 returns c = let h : 0 < length (c .before .before .before .before .args .input .now) - c .before .before .before .before .args .at = omega arith in
-    rw (length-drop, lt-ltb 0 _ h, head-drop) (c .named .ensures)
+    rw (length-drop, lt-ltb 0 _ h, head-drop) (c .decode-01-to-05 .ensures)
 
 returns-2 : tie.Need-returns-2
 unfolding decoded
@@ -25,4 +25,4 @@ returns-2 c = let h : length (c .before .before .args .input .now) - c .before .
     rw (length-drop, le-ltb 0 _ h)
 
 pub decode-spec : {M : Type 1} → statement M
-decode-spec = tie.close (tie.spec shared-slice-read-named named-requires returns returns-2)
+decode-spec = tie.close (tie.spec shared-slice-read-decode-01-to-05 decode-01-to-05-requires returns returns-2)

@@ -1,3 +1,6 @@
+use native.Mathlib.Omega.{arith}
+use Prim.Native.Nat.{_+_, _<_, _≤_}
+use lib.ListN.{getD}
 use borrow.Author.Tests.{lt-ltb, le-ltb}
 use lib.Seq.{getD-drop}
 use Rattle.commands.specs.Decode.{pins}
@@ -27,7 +30,8 @@ shared-slice-read-b c = search needs
 
 returns-2 : tie.Need-returns-2
 unfolding pins
-returns-2 c = rw (there 14 _ _ _ (c .before .before .before .if1 .left), getD-drop, lt-ltb _ _ (c .if2 .taken))
+returns-2 c = let h : 15 < getD (c .before .before .before .before .before .args .input .now) (c .before .before .before .before .before .args .at + 13) 0 = omega arith in
+    rw (there 14 _ _ _ (c .before .before .before .if1 .left), getD-drop, lt-ltb 15 _ h)
 
 levels-requires : tie.Need-levels-requires
 levels-requires c κs = search needs
@@ -37,7 +41,8 @@ levels-requires-2 c κs = search needs
 
 returns-3 : tie.Need-returns-3
 unfolding pins
-returns-3 c = rw (there 14 _ _ _ (c .before .before .before .before .before .if1 .left), getD-drop, le-ltb _ _ (c .before .before .if2 .left), moment-drop, c .before .before .before .before .moment .ensures, c .before .levels .ensures, c .levels2 .ensures)
+returns-3 c = let h : getD (c .before .before .before .before .before .before .before .args .input .now) (c .before .before .before .before .before .before .before .args .at + 13) 0 ≤ 15 = omega arith in
+    rw (there 14 _ _ _ (c .before .before .before .before .before .if1 .left), getD-drop, le-ltb 15 _ h, moment-drop, c .before .before .before .before .moment .ensures, c .before .levels .ensures, c .levels2 .ensures)
 
 pub pins-spec : {M : Type 1} → statement M
 pins-spec =

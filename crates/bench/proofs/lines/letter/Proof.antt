@@ -1,4 +1,4 @@
-use Rattle.bma150.specs.Calls.{drive-letter}
+use Rattle.bma150.specs.Values.{drive-letter}
 use borrow.Author.Needs.{needs}
 use Rattle.bench.proofs.lines.letter.Statement.{statement}
 use Rattle.bench.proofs.lines.letter.Tie as tie

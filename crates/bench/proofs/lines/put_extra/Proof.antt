@@ -1,7 +1,7 @@
 use native.Mathlib.Omega.{arith}
 use Rattle.bench.specs.Put.{none, _then_, says}
 use Rattle.bench.specs.Text.{image-text, length-hexes}
-use Rattle.bench.specs.Line.{extra-text}
+use Rattle.bench.specs.Line.{extra-adds, added-text}
 use borrow.Author.Needs.{needs}
 use Rattle.bench.proofs.lines.put_extra.Statement.{statement}
 use Rattle.bench.proofs.lines.put_extra.Tie as tie
@@ -31,19 +31,19 @@ put-hexes-requires : tie.Need-put-hexes-requires
 put-hexes-requires c κs = search needs
 
 returns : tie.Need-returns
-unfolding extra-text
+unfolding extra-adds added-text
 returns c = (says none (rw (c .enum-told .given .1)), omega arith)
 
 returns-2 : tie.Need-returns-2
-unfolding extra-text
+unfolding extra-adds added-text
 returns-2 c = (says (c .put-report .ensures .0) (rw (c .before .before .before .x .given .1)), omega arith)
 
 returns-3 : tie.Need-returns-3
-unfolding extra-text
+unfolding extra-adds added-text
 returns-3 c = (says (c .put-view .ensures .0) (rw (c .before .before .before .x2 .given .1)), omega arith)
 
 returns-4 : tie.Need-returns-4
-unfolding extra-text image-text
+unfolding extra-adds added-text image-text
 returns-4 c = (says (c .before .before .before .put .ensures then c .put-hexes .ensures) (rw (c .before .before .before .before .before .enum-told2 .given .1)), omega (arith, c .before .before .before .put .ensures .next, c .put-hexes .ensures .next, length-hexes (c .before .before .before .before .before .before .before .args .image .now)))
 
 pub put-extra-spec : {M : Type 1} → statement M

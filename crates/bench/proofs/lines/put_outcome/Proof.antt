@@ -1,7 +1,7 @@
 use native.Mathlib.Omega.{arith}
 use Rattle.bench.specs.Put.{says}
 use Rattle.bench.specs.Text.{word}
-use Rattle.refusals.specs.Table.{number}
+use Rattle.calls.specs.Table.{number}
 use borrow.Author.Needs.{needs}
 use Rattle.bench.proofs.lines.put_outcome.Statement.{statement}
 use Rattle.bench.proofs.lines.put_outcome.Tie as tie

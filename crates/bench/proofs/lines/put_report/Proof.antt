@@ -1,7 +1,7 @@
 use native.Mathlib.Omega.{arith}
 use Rattle.bench.specs.Put.{_then_, says}
 use Rattle.bench.specs.Text.{report-text}
-use Rattle.bma150.specs.Calls.{report-values}
+use Rattle.bma150.specs.Values.{report-values}
 use borrow.Author.Needs.{needs}
 use Rattle.bench.proofs.lines.put_report.Statement.{statement}
 use Rattle.bench.proofs.lines.put_report.Tie as tie

@@ -1,7 +1,7 @@
 use native.Mathlib.Omega.{arith}
 use Rattle.bench.specs.Put.{_then_, says}
 use Rattle.bench.specs.Text.{view-text}
-use Rattle.bma150.specs.Calls.{view-value}
+use Rattle.bma150.specs.Values.{view-value}
 use borrow.Author.Needs.{needs}
 use Rattle.bench.proofs.lines.put_view.Statement.{statement}
 use Rattle.bench.proofs.lines.put_view.Tie as tie

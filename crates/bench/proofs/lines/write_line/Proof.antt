@@ -18,8 +18,8 @@ put-outcome-requires c κs = search needs
 put-pins-requires : tie.Need-put-pins-requires
 put-pins-requires c κs = search needs
 
-put-added-requires : tie.Need-put-added-requires
-put-added-requires c κs = search needs
+put-extra-requires : tie.Need-put-extra-requires
+put-extra-requires c κs = search needs
 
 put-due-requires : tie.Need-put-due-requires
 put-due-requires c κs = search needs
@@ -29,7 +29,7 @@ put-requires-2 c κs = search needs
 
 returns : tie.Need-returns
 unfolding line
-returns c = (says (c .before .before .before .before .before .before .before .before .before .before .before .before .before .put-hex .ensures then c .before .before .before .before .before .before .before .before .before .before .before .put .ensures then c .before .before .before .before .before .before .before .before .before .put-outcome .ensures .0 then c .before .before .before .before .before .before .before .put-pins .ensures .0 then c .before .before .before .before .put-added .ensures .0 then c .before .before .put-due .ensures .0 then c .put2 .ensures) refl, omega (arith, c .before .before .before .before .before .before .before .before .before .before .before .before .before .put-hex .ensures .next, c .before .before .before .before .before .before .before .before .before .before .before .put .ensures .next, c .put2 .ensures .next))
+returns c = (says (c .before .before .before .before .before .before .before .before .before .before .before .before .before .put-hex .ensures then c .before .before .before .before .before .before .before .before .before .before .before .put .ensures then c .before .before .before .before .before .before .before .before .before .put-outcome .ensures .0 then c .before .before .before .before .before .before .before .put-pins .ensures .0 then c .before .before .before .before .put-extra .ensures .0 then c .before .before .put-due .ensures .0 then c .put2 .ensures) refl, omega (arith, c .before .before .before .before .before .before .before .before .before .before .before .before .before .put-hex .ensures .next, c .before .before .before .before .before .before .before .before .before .before .before .put .ensures .next, c .put2 .ensures .next))
 
 pub write-line-spec : {M : Type 1} → statement M
 write-line-spec =
@@ -39,7 +39,7 @@ write-line-spec =
     put-requires
     put-outcome-requires
     put-pins-requires
-    put-added-requires
+    put-extra-requires
     put-due-requires
     put-requires-2
     returns)

@@ -38,25 +38,28 @@ use denote.Triple.Walked.{says, Stays, stay-ref, stay-none, walkOf, AllGo, goes-
 use denote.Exit.{yes}
 use denote.Triple.Clauses.{ensured, lasts}
 use Rattle.bma150.proofs.Fit.{Fit, fits-at, init-fit, store-raw-fit}
-use Rattle.refusals.specs.Table.{number}
-use Rattle.bma150.specs.Calls.{due-number, after-due, due-report, report-values}
+use Rattle.calls.specs.Table.{number}
+use Rattle.calls.specs.declared.types.Timed.the-variants as Timed
+use Rattle.calls.specs.declared.types.Call.the-variants as Call
+use Rattle.bma150.specs.Values.{report-values}
+use Rattle.bma150.specs.Called.{called, reported}
 use Rattle.bma150.specs.Lent.{DueLent}
 use Rattle.time.specs.declared.Time.{Time}
-use Rattle.bma150.specs.declared.types.Bma150.{Bma150}
+use Rattle.bma150.specs.declared.host.Bma150.{Bma150}
 use Rattle.bma150.specs.declared.types.Reported.{Reported}
 use Rattle.bma150.specs.declared.types.Answered.{Answered}
 use Rattle.time.proofs.Time as Mo
 use Rattle.time.proofs.Time.Laws as Mo′
-use Rattle.bma150.proofs.types.Bma150 as T
-use Rattle.bma150.proofs.types.Bma150.Laws as T′
+use Rattle.bma150.proofs.host.Bma150 as T
+use Rattle.bma150.proofs.host.Bma150.Laws as T′
 use Rattle.bma150.proofs.types.Reported as Ti
 use Rattle.bma150.proofs.types.Reported.Laws as Ti′
 use Rattle.bma150.proofs.types.Answered as Re
 use Rattle.bma150.proofs.types.Answered.Laws as Re′
-use Rattle.bma150.proofs.types.Bma150.due as due
-use Rattle.bma150.proofs.types.Bma150.due.Symbol as due-def
-use Rattle.bma150.proofs.types.Bma150.due.Symbol.{name as #due}
-use Rattle.bma150.proofs.types.Bma150.due.Met as due-thm
+use Rattle.bma150.proofs.host.Bma150.due as due
+use Rattle.bma150.proofs.host.Bma150.due.Symbol as due-def
+use Rattle.bma150.proofs.host.Bma150.due.Symbol.{name as #due}
+use Rattle.bma150.proofs.host.Bma150.due.Met as due-thm
 use Rattle.bma150.proofs.lent.sensor_of as so
 use Rattle.bma150.proofs.lent.sensor_of.Symbol as so-def
 use Rattle.bma150.proofs.lent.sensor_of.Symbol.{name as #so}
@@ -117,13 +120,13 @@ module _ {M : Type 1} (𝓤 : URA M) (H : Heap 𝓤) (A : Atoms 𝓤) (at-mem : 
 
   -- what `due` and `answer_of` say, clause by clause
   abbrev Numbered : Bma150 → Time → Reported → Type 0
-  Numbered h m r = number (r .outcome) ≡ due-number h m
+  Numbered h m r = number (r .outcome) ≡ called h (Call.At m Timed.Due) .number
 
   abbrev Left : Bma150 → Time → Reported → Type 0
-  Left h m r = r .sensor ≡ after-due h m
+  Left h m r = r .sensor ≡ called h (Call.At m Timed.Due) .sensor
 
   abbrev Told : Bma150 → Time → Reported → Type 0
-  Told h m r = report-values (r .report) ≡ report-values (due-report h m)
+  Told h m r = report-values (r .report) ≡ reported (called h (Call.At m Timed.Due) .adds)
 
   due-of : (h : Bma150) (m : Time) (r : Reported) → ent 𝓤 (ensured 𝓤 H A due.ended (due.clauses 𝓤 H A at-mem run) tt (h, (m, tt)) tt r) (sep 𝓤 (fact 𝓤 (Numbered h m r)) (sep 𝓤 (fact 𝓤 (Left h m r)) (fact 𝓤 (Told h m r))))
   due-of h m r = exE 𝓤 _ (λ ws. snd∗ 𝓤 (sem 𝓤 H A (lasts due.ended tt (h, (m, tt)) ws)) (sep 𝓤 (fact 𝓤 (Numbered h m r)) (sep 𝓤 (fact 𝓤 (Left h m r)) (fact 𝓤 (Told h m r)))))
@@ -229,6 +232,6 @@ due-lent-spec 𝓤 H 𝓜 𝓖 𝓡 =
     entered 𝓤 H (tripleOf 𝓤 H (𝓖 .A) f.signature (f.spec 𝓤 H (𝓖 .A) (𝓜 .mem) (𝓡 .run)))
     (tables 𝓤 H 𝓜 𝓡 code.env .C) (tables 𝓤 H 𝓜 𝓡 code.env .Λ) #mine code.function (code.unfolded 𝓤 H 𝓜 𝓡)
     (f-meets 𝓤 H (𝓖 .A) (givenOf 𝓤 H 𝓜 𝓖) (𝓜 .mem) (𝓡 .run) (tablesOf 𝓤 H 𝓜 (tables 𝓤 H 𝓜 𝓡 code.env))
-    (cited 𝓤 H (Due 𝓤 H (𝓖 .A) (𝓜 .mem) (𝓡 .run)) 𝓜 𝓡 code.env #due due-def.routine code.calls-bma150·types·Bma150·due (due-thm.met 𝓤 H 𝓜 𝓖 𝓡))
+    (cited 𝓤 H (Due 𝓤 H (𝓖 .A) (𝓜 .mem) (𝓡 .run)) 𝓜 𝓡 code.env #due due-def.routine code.calls-bma150·host·Bma150·due (due-thm.met 𝓤 H 𝓜 𝓖 𝓡))
     (cited 𝓤 H (So 𝓤 H (𝓖 .A) (𝓜 .mem) (𝓡 .run)) 𝓜 𝓡 code.env #so so-def.routine code.calls-bma150·lent·sensor-of (so-thm.met 𝓤 H 𝓜 𝓖 𝓡))
     (cited 𝓤 H (Ro 𝓤 H (𝓖 .A) (𝓜 .mem) (𝓡 .run)) 𝓜 𝓡 code.env #ro ro-def.routine code.calls-bma150·lent·answer-of (ro-thm.met 𝓤 H 𝓜 𝓖 𝓡)))

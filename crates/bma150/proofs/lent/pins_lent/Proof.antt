@@ -39,28 +39,30 @@ use denote.Triple.Walked.{says, Stays, stay-ref, stay-none, walkOf, AllGo, goes-
 use denote.Exit.{yes}
 use denote.Triple.Clauses.{ensured, lasts}
 use Rattle.bma150.proofs.Fit.{Fit, fits-at, init-fit, store-raw-fit}
-use Rattle.refusals.specs.Table.{number}
-use Rattle.bma150.specs.Calls.{pins-number, after-pins}
+use Rattle.calls.specs.Table.{number}
+use Rattle.calls.specs.declared.types.Timed.the-variants as Timed
+use Rattle.calls.specs.declared.types.Call.the-variants as Call
+use Rattle.bma150.specs.Called.{called}
 use Rattle.bma150.specs.Lent.{PinsLent}
 use Rattle.time.specs.declared.Time.{Time}
-use Rattle.bma150.specs.declared.types.Bma150.{Bma150}
+use Rattle.bma150.specs.declared.host.Bma150.{Bma150}
 use Rattle.i2c.specs.declared.types.Levels.{Levels}
-use Rattle.refusals.specs.declared.types.Outcome.{Outcome}
+use Rattle.calls.specs.declared.types.Outcome.{Outcome}
 use Rattle.bma150.specs.declared.types.Replied.{Replied}
 use Rattle.time.proofs.Time as Mo
 use Rattle.time.proofs.Time.Laws as Mo′
-use Rattle.bma150.proofs.types.Bma150 as T
-use Rattle.bma150.proofs.types.Bma150.Laws as T′
+use Rattle.bma150.proofs.host.Bma150 as T
+use Rattle.bma150.proofs.host.Bma150.Laws as T′
 use Rattle.bma150.proofs.types.Replied as Ti
 use Rattle.bma150.proofs.types.Replied.Laws as Ti′
-use Rattle.refusals.proofs.types.Outcome as Re
-use Rattle.refusals.proofs.types.Outcome.Laws as Re′
+use Rattle.calls.proofs.types.Outcome as Re
+use Rattle.calls.proofs.types.Outcome.Laws as Re′
 use Rattle.i2c.proofs.types.Levels as Le
 use Rattle.i2c.proofs.types.Levels.Laws as Le′
-use Rattle.bma150.proofs.types.Bma150.pins as pins
-use Rattle.bma150.proofs.types.Bma150.pins.Symbol as pins-def
-use Rattle.bma150.proofs.types.Bma150.pins.Symbol.{name as #pins}
-use Rattle.bma150.proofs.types.Bma150.pins.Met as pins-thm
+use Rattle.bma150.proofs.host.Bma150.pins as pins
+use Rattle.bma150.proofs.host.Bma150.pins.Symbol as pins-def
+use Rattle.bma150.proofs.host.Bma150.pins.Symbol.{name as #pins}
+use Rattle.bma150.proofs.host.Bma150.pins.Met as pins-thm
 use Rattle.bma150.proofs.lent.replied_sensor as so
 use Rattle.bma150.proofs.lent.replied_sensor.Symbol as so-def
 use Rattle.bma150.proofs.lent.replied_sensor.Symbol.{name as #so}
@@ -130,14 +132,14 @@ module _ {M : Type 1} (𝓤 : URA M) (H : Heap 𝓤) (A : Atoms 𝓤) (at-mem : 
   Ro = tripleOf 𝓤 H A ro.signature (ro.spec 𝓤 H A at-mem run)
 
   -- what `pins` says, clause by clause
-  abbrev Numbered : Bma150 → Time → Replied → Type 0
-  Numbered h m r = number (r .outcome) ≡ pins-number h m
+  abbrev Numbered : Bma150 → Time → Levels → Levels → Replied → Type 0
+  Numbered h m x y r = number (r .outcome) ≡ called h (Call.At m (Timed.Pins x y)) .number
 
   abbrev Left : Bma150 → Time → Levels → Levels → Replied → Type 0
-  Left h m x y r = r .sensor ≡ after-pins h m x y
+  Left h m x y r = r .sensor ≡ called h (Call.At m (Timed.Pins x y)) .sensor
 
-  pins-of : (h : Bma150) (m : Time) (x y : Levels) (r : Replied) → ent 𝓤 (ensured 𝓤 H A pins.ended (pins.clauses 𝓤 H A at-mem run) tt (h, (m, (x, (y, tt)))) tt r) (sep 𝓤 (fact 𝓤 (Numbered h m r)) (fact 𝓤 (Left h m x y r)))
-  pins-of h m x y r = exE 𝓤 _ (λ ws. snd∗ 𝓤 (sem 𝓤 H A (lasts pins.ended tt (h, (m, (x, (y, tt)))) ws)) (sep 𝓤 (fact 𝓤 (Numbered h m r)) (fact 𝓤 (Left h m x y r))))
+  pins-of : (h : Bma150) (m : Time) (x y : Levels) (r : Replied) → ent 𝓤 (ensured 𝓤 H A pins.ended (pins.clauses 𝓤 H A at-mem run) tt (h, (m, (x, (y, tt)))) tt r) (sep 𝓤 (fact 𝓤 (Numbered h m x y r)) (fact 𝓤 (Left h m x y r)))
+  pins-of h m x y r = exE 𝓤 _ (λ ws. snd∗ 𝓤 (sem 𝓤 H A (lasts pins.ended tt (h, (m, (x, (y, tt)))) ws)) (sep 𝓤 (fact 𝓤 (Numbered h m x y r)) (fact 𝓤 (Left h m x y r))))
 
   so-of : (t : Replied) (r : Bma150) → ent 𝓤 (ensured 𝓤 H A so.ended (so.clauses 𝓤 H A at-mem run) tt (t, tt) tt r) (fact 𝓤 (r ≡ t .sensor))
   so-of t r = exE 𝓤 _ (λ ws. snd∗ 𝓤 (sem 𝓤 H A (lasts so.ended tt (t, tt) ws)) (fact 𝓤 (r ≡ t .sensor)))
@@ -205,7 +207,7 @@ module _ {M : Type 1} (𝓤 : URA M) (H : Heap 𝓤) (A : Atoms 𝓤) (W : Given
         move ! (0 ∷ 21 ∷ 22 ∷ 23 ∷ []) $ join ! $ join ! $ join ! $ use1 W (raw (Pins 𝓤 H A at-mem run .pre to-pins)) goes-pins $
         calls-at ! fm (Pins 𝓤 H A at-mem run) known-pins to-pins (and-then ! (load ! (from ! (stop !)) (look ! 9 refl)) (and-then ! (load ! (from ! (stop !)) (look ! 15 refl)) (and-then ! (load ! (from ! (stop !)) (look ! 13 refl)) (and-then ! (load ! (from ! (stop !)) (look ! 11 refl)) (no-more !))))) (λ v.
         use1 W (later (some (λ (r : Replied). (‵ ftrue ⊛ ‵ (Ti.the-row .own r (v ∷ []))) ⊛ raw (ensured 𝓤 H A pins.ended (pins.clauses 𝓤 H A at-mem run) tt (h, (m, (before, (after, tt)))) tt r)))) (id⊢ 𝓤 _) $ await ! tt $ pick ! (λ r.
-        split ! $ move ! (1 ∷ []) $ use1 W (raw (fact 𝓤 (Numbered 𝓤 H A at-mem run h m r)) ⊛ raw (fact 𝓤 (Left 𝓤 H A at-mem run h m before after r))) (pins-of 𝓤 H A at-mem run h m before after r) $ split ! $ heard ! (Numbered 𝓤 H A at-mem run h m r) (λ n. heard ! (Left 𝓤 H A at-mem run h m before after r) (λ e. split ! $ drop ! $
+        split ! $ move ! (1 ∷ []) $ use1 W (raw (fact 𝓤 (Numbered 𝓤 H A at-mem run h m before after r)) ⊛ raw (fact 𝓤 (Left 𝓤 H A at-mem run h m before after r))) (pins-of 𝓤 H A at-mem run h m before after r) $ split ! $ heard ! (Numbered 𝓤 H A at-mem run h m before after r) (λ n. heard ! (Left 𝓤 H A at-mem run h m before after r) (λ e. split ! $ drop ! $
         peeks ! Ti.the-row (Is Ti.the-row) (shows 𝓤 H A Ti.the-row) r (v ∷ []) (λ ir.
         -- [what r owns; the cell; the open borrow; obs; auth; _7 5; _6 7; _5 9; _4 11; _3 13; _2 15; _1 17; _0 19; true; true]
         land ! (from ! (stop !)) (init-fit ! 7 refl (fit-t 𝓤 H A W r v ir)) $
@@ -250,6 +252,6 @@ pins-lent-spec 𝓤 H 𝓜 𝓖 𝓡 =
     entered 𝓤 H (tripleOf 𝓤 H (𝓖 .A) f.signature (f.spec 𝓤 H (𝓖 .A) (𝓜 .mem) (𝓡 .run)))
     (tables 𝓤 H 𝓜 𝓡 code.env .C) (tables 𝓤 H 𝓜 𝓡 code.env .Λ) #mine code.function (code.unfolded 𝓤 H 𝓜 𝓡)
     (f-meets 𝓤 H (𝓖 .A) (givenOf 𝓤 H 𝓜 𝓖) (𝓜 .mem) (𝓡 .run) (tablesOf 𝓤 H 𝓜 (tables 𝓤 H 𝓜 𝓡 code.env))
-    (cited 𝓤 H (Pins 𝓤 H (𝓖 .A) (𝓜 .mem) (𝓡 .run)) 𝓜 𝓡 code.env #pins pins-def.routine code.calls-bma150·types·Bma150·pins (pins-thm.met 𝓤 H 𝓜 𝓖 𝓡))
+    (cited 𝓤 H (Pins 𝓤 H (𝓖 .A) (𝓜 .mem) (𝓡 .run)) 𝓜 𝓡 code.env #pins pins-def.routine code.calls-bma150·host·Bma150·pins (pins-thm.met 𝓤 H 𝓜 𝓖 𝓡))
     (cited 𝓤 H (So 𝓤 H (𝓖 .A) (𝓜 .mem) (𝓡 .run)) 𝓜 𝓡 code.env #so so-def.routine code.calls-bma150·lent·replied-sensor (so-thm.met 𝓤 H 𝓜 𝓖 𝓡))
     (cited 𝓤 H (Ro 𝓤 H (𝓖 .A) (𝓜 .mem) (𝓡 .run)) 𝓜 𝓡 code.env #ro ro-def.routine code.calls-bma150·lent·replied-outcome (ro-thm.met 𝓤 H 𝓜 𝓖 𝓡)))

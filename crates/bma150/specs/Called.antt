@@ -1,0 +1,141 @@
+-- What a call leaves and answers, for all arguments. Assumes nothing.
+use Prim.Native.Nat.{ℕ}
+use mathlib.Core.Bool.{Bool, false}
+use mathlib.Core.List.{List, []}
+use mathlib.Core.Option.{Option}
+use lib.ListN.{length}
+use Rattle.time.specs.declared.Time.{Time}
+use Rattle.time.specs.Time.{time}
+use Rattle.spi.specs.declared.types.Drive.{Drive}
+use Rattle.deadlines.specs.Deadlines.{moment}
+use Rattle.calls.specs.declared.types.Timed.{Timed}
+use Rattle.calls.specs.declared.types.Timed.the-variants as Timed
+use Rattle.calls.specs.declared.types.Call.{Call}
+use Rattle.calls.specs.declared.types.Call.the-variants as Call
+use Rattle.calls.specs.Table.{refusal, start-refusal, unless-refused}
+use Rattle.sensor.specs.declared.types.Sensor.{Sensor}
+use Rattle.sensor.specs.Image.{nonvolatile, from-nonvolatile, stock}
+use Rattle.sensor.specs.Mode as Mode
+use Rattle.sensor.specs.Bytes.{peek}
+use Rattle.sensor.specs.Select.{set-selected}
+use Rattle.writes.specs.Samples.{interaction-deadline, sync-local-until}
+use Rattle.serial.specs.Outputs as Outputs
+use Rattle.serial.specs.SpiEdges.{rising-at, falling-at}
+use Rattle.serial.specs.I2cPins.{i2c-pins-at}
+use Rattle.waits.specs.declared.types.Report.{Report}
+use Rattle.waits.specs.declared.types.Served.{Served}
+use Rattle.waits.specs.Supply.{silently, set-supply, set-input, set-temperature}
+use Rattle.waits.specs.Due.{at-deadline}
+use Rattle.bma150.specs.declared.host.Bma150.{Bma150}
+use Rattle.bma150.specs.Values.{report-values, view-value}
+
+-- ---- a start: its number, and the sensor that it hands out
+
+abbrev pub start-number : Time → List ℕ → ℕ
+start-number now image = start-refusal now (length image)
+
+-- it sets the last accepted time
+abbrev pub started : Time → List ℕ → Bma150
+started now image = record { sensor = from-nonvolatile now image; last = now }
+
+-- a refused start's sensor is the stock image's at time 0
+unfoldable pub after-start : Time → List ℕ → Bma150
+after-start now image = unless-refused (start-number now image) (started (time 0) stock) (started now image)
+
+-- ---- what an accepted call answers beside its number: a report, a viewed byte or its absence, the bytes put in the buffer
+
+pub data Added : Type 0 where
+  nothing : Added
+  report : List ℕ → Added
+  viewed : Option ℕ → Added
+  put : List ℕ → Added
+
+-- the report of an answer
+unfoldable pub reported : Added → List ℕ
+reported Added.nothing = []
+reported (Added.report values) = values
+reported (Added.viewed value) = []
+reported (Added.put bytes) = []
+
+-- the answer of a view
+abbrev pub of-view : Option ℕ → Added
+of-view value = Added.viewed value
+
+-- the lent buffer after the call
+unfoldable pub put-in : Added → List ℕ → List ℕ
+put-in Added.nothing buffer = buffer
+put-in (Added.report values) buffer = buffer
+put-in (Added.viewed value) buffer = buffer
+put-in (Added.put bytes) buffer = bytes
+
+-- ---- an accepted call
+
+-- 01: a timed call is `sync_local_until(now, false)` and then this
+unfoldable pub effect : Sensor → Time → Timed → Served
+effect s now (Timed.Accelerations x y z) = silently (set-input s x y z)
+effect s now (Timed.Supply rail) = set-supply s rail now
+effect s now Timed.Due = at-deadline s now
+effect s now (Timed.Rising mosi) = silently (rising-at s mosi now)
+effect s now Timed.Falling = silently (falling-at s now)
+effect s now (Timed.Pins before after) = silently (i2c-pins-at s before after now)
+
+-- supply and due calls report
+unfoldable pub timed-adds : Timed → Report → Added
+timed-adds (Timed.Accelerations x y z) r = Added.nothing
+timed-adds (Timed.Supply rail) r = Added.report (report-values r)
+timed-adds Timed.Due r = Added.report (report-values r)
+timed-adds (Timed.Rising mosi) r = Added.nothing
+timed-adds Timed.Falling r = Added.nothing
+timed-adds (Timed.Pins before after) r = Added.nothing
+
+-- the sensor at a timed call's moment, after it
+abbrev pub served : Bma150 → Time → Timed → Served
+served s now t = effect (sync-local-until (s .sensor) now false) now t
+
+-- the sensor left; a timed call's time is then the last accepted one
+unfoldable pub leaves : Bma150 → Call → Bma150
+leaves s (Call.At now t) = record { sensor = served s now t .sensor; last = now }
+leaves s (Call.Temperature x) = record { sensor = set-temperature (s .sensor) x; last = s .last }
+leaves s (Call.Select on) = record { sensor = set-selected (s .sensor) on; last = s .last }
+leaves s (Call.View address) = s
+leaves s (Call.StoredImage now n) = s
+
+unfoldable pub adds : Bma150 → Call → Added
+adds s (Call.At now t) = timed-adds t (served s now t .report)
+adds s (Call.Temperature x) = Added.nothing
+adds s (Call.Select on) = Added.nothing
+adds s (Call.View address) = Added.viewed (view-value (peek (s .sensor) address))
+adds s (Call.StoredImage now n) = Added.put (nonvolatile (s .sensor) now)
+
+-- ---- any call: a refused one leaves the sensor as it came, and answers only its number
+
+pub record Called : Type 0 where
+  pub number : ℕ
+  pub sensor : Bma150
+  pub adds : Added
+
+-- next due is that before any sampling
+abbrev pub number : Bma150 → Call → ℕ
+number s c = refusal (s .last) (interaction-deadline (s .sensor)) c
+
+abbrev pub called : Bma150 → Call → Called
+called s c = record {
+  number = number s c;
+  sensor = unless-refused (number s c) s (leaves s c);
+  adds = unless-refused (number s c) Added.nothing (adds s c);
+}
+
+-- ---- the observers
+
+abbrev pub interrupt : Bma150 → Bool
+interrupt s = Mode.interrupt (s .sensor)
+
+abbrev pub output : Bma150 → Drive
+output s = Outputs.output (s .sensor)
+
+abbrev pub data-output : Bma150 → Drive
+data-output s = Outputs.data-output (s .sensor)
+
+-- next due: the moment or nothing
+abbrev pub next-due : Bma150 → Option Time
+next-due s = moment (interaction-deadline (s .sensor))

@@ -1,0 +1,166 @@
+-- 01's table of refusals: which one a call gets, from the last accepted time, next due and the call. Assumes nothing.
+use Prim.Native.Nat.{ℕ, _^_}
+use mathlib.Core.Bool.{Bool, false, cond, not, _||_}
+use mathlib.Core.List.{List, [], _∷_}
+use lib.Dec.{leb, eqb}
+use lib.IntN.{ℤ, pos, negℤ}
+use lib.Signed.{ltZ}
+use Rattle.time.specs.declared.Time.{Time}
+use Rattle.time.specs.Time.{precedes}
+use Rattle.deadlines.specs.declared.Deadline.{Deadline}
+use Rattle.deadlines.specs.Deadlines.{is-at, is-by}
+use Rattle.calls.specs.declared.types.Call.{Call}
+use Rattle.calls.specs.declared.types.Refusal.{Refusal}
+use Rattle.calls.specs.declared.types.Refusal.the-variants as Refusal
+use Rattle.calls.specs.declared.types.Outcome.{Outcome}
+use Rattle.calls.specs.declared.types.Outcome.the-variants as Outcome
+use Rattle.calls.specs.declared.types.Kind.{Kind}
+use Rattle.calls.specs.declared.types.Kind.the-variants as Kind
+use Rattle.calls.specs.declared.types.Dated.{Dated}
+use Rattle.calls.specs.declared.types.Dated.the-variants as Dated
+use Rattle.calls.specs.declared.types.Bytes.{Bytes}
+use Rattle.calls.specs.declared.types.Bytes.the-variants as Bytes
+use Rattle.calls.specs.declared.types.Axes.{Axes}
+use Rattle.calls.specs.declared.types.Axes.the-variants as Axes
+use Rattle.calls.specs.declared.types.Facts.{Facts}
+use Rattle.calls.specs.Facts.{bringing, facts}
+
+-- ---- 01's table: a number for each refusal, 0 where a call is accepted
+
+abbrev pub no-refusal : ℕ
+no-refusal = 0
+
+abbrev pub image-length : ℕ
+image-length = 1
+
+abbrev pub axis-range : ℕ
+axis-range = 2
+
+abbrev pub time-limit : ℕ
+time-limit = 3
+
+abbrev pub time-back : ℕ
+time-back = 4
+
+abbrev pub due-first : ℕ
+due-first = 5
+
+abbrev pub not-due : ℕ
+not-due = 6
+
+-- given by the bench program alone
+abbrev pub command : ℕ
+command = 7
+
+-- the number of a refusal, and of what a call answers
+unfoldable pub refusal-number : Refusal → ℕ
+refusal-number Refusal.ImageLength = image-length
+refusal-number Refusal.AxisRange = axis-range
+refusal-number Refusal.TimeLimit = time-limit
+refusal-number Refusal.TimeBack = time-back
+refusal-number Refusal.DueFirst = due-first
+refusal-number Refusal.NotDue = not-due
+refusal-number Refusal.Command = command
+
+unfoldable pub number : Outcome → ℕ
+number Outcome.Accepted = no-refusal
+number (Outcome.Refused why) = refusal-number why
+
+-- ---- the table's last column, a test each, false where it does not apply
+
+-- 1: not 19 bytes
+unfoldable pub wrong-length : Bytes → Bool
+wrong-length (Bytes.Count n) = not (eqb n 19)
+wrong-length Bytes.Nothing = false
+
+-- 2: an axis is beyond ±1,000,000,000
+unfoldable pub beyond : ℤ → Bool
+beyond axis = ltZ (pos 1000000000) axis || ltZ axis (negℤ (pos 1000000000))
+
+unfoldable pub any-beyond : ℤ → ℤ → ℤ → Bool
+any-beyond x y z = beyond x || (beyond y || beyond z)
+
+unfoldable pub out-of-range : Axes → Bool
+out-of-range (Axes.Set x y z) = any-beyond x y z
+out-of-range Axes.Unset = false
+
+-- 3: whole seconds are 2^32 or more
+unfoldable pub late : Time → Bool
+late now = leb (2 ^ 32) (now .0)
+
+unfoldable pub too-late : Dated → Bool
+too-late (Dated.At now) = late now
+too-late Dated.Undated = false
+
+-- 4: earlier than the last accepted time
+unfoldable pub goes-back : Time → Dated → Bool
+goes-back last (Dated.At now) = precedes now last
+goes-back last Dated.Undated = false
+
+-- 5: a timed call other than the due call, and next due is at or before its time
+unfoldable pub due-by : Deadline → Dated → Bool
+due-by due (Dated.At now) = is-by due now
+due-by due Dated.Undated = false
+
+unfoldable pub before-due : Deadline → Kind → Dated → Bool
+before-due due Kind.Timed time = due-by due time
+before-due due Kind.Due time = false
+before-due due Kind.Untimed time = false
+
+-- 6: a due call whose time is not next due, or nothing is due
+unfoldable pub due-at : Deadline → Dated → Bool
+due-at due (Dated.At now) = is-at due now
+due-at due Dated.Undated = false
+
+unfoldable pub beside-due : Deadline → Kind → Dated → Bool
+beside-due due Kind.Timed time = false
+beside-due due Kind.Due time = not (due-at due time)
+beside-due due Kind.Untimed time = false
+
+-- ---- which refusal a call gets: the first found
+
+-- a row: a number and a test
+pub record Row (A : Type 0) : Type 0 where
+  pub number : ℕ
+  pub test : A → Bool
+
+abbrev pub row : {A : Type 0} → ℕ → (A → Bool) → Row A
+row n t = record { number = n; test = t }
+
+unfoldable pub first-found : {A : Type 0} → List (Row A) → A → ℕ
+first-found [] a = no-refusal
+first-found (r ∷ rs) a = cond (r .test a) (r .number) (first-found rs a)
+
+-- what a call meets: the last accepted time, next due before any sampling, and what is asked of the call itself
+pub record Meets : Type 0 where
+  pub last : Time
+  pub due : Deadline
+  pub call : Facts
+
+-- 01's order: 1, 3, 4, 2, 5, 6
+abbrev pub rows : List (Row Meets)
+rows =
+    row image-length (λ m. wrong-length (m .call .bytes))
+    ∷ row time-limit (λ m. too-late (m .call .time))
+    ∷ row time-back (λ m. goes-back (m .last) (m .call .time))
+    ∷ row axis-range (λ m. out-of-range (m .call .axes))
+    ∷ row due-first (λ m. before-due (m .due) (m .call .kind) (m .call .time))
+    ∷ row not-due (λ m. beside-due (m .due) (m .call .kind) (m .call .time))
+    ∷ []
+
+unfoldable pub refusal : Time → Deadline → Call → ℕ
+refusal last due c = first-found rows (record { last = last; due = due; call = facts c })
+
+-- 01: a start has 1 and 3
+abbrev pub start-rows : List (Row Facts)
+start-rows =
+    row image-length (λ f. wrong-length (f .bytes))
+    ∷ row time-limit (λ f. too-late (f .time))
+    ∷ []
+
+unfoldable pub start-refusal : Time → ℕ → ℕ
+start-refusal now length = first-found start-rows (bringing now length)
+
+-- what a call leaves: a refused one what came in
+unfoldable pub unless-refused : {A : Type 0} → ℕ → A → A → A
+unless-refused number before after = cond (eqb number no-refusal) after before

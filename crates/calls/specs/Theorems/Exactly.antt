@@ -1,0 +1,305 @@
+-- A call gets number n exactly if n is that of the first fault of 01's table that is there, or 0 where there is none. Assumes nothing.
+use Prim.Native.Nat.{ℕ, _^_, _≤_, _<_}
+use native.Mathlib.Omega.{arith}
+use mathlib.Core.Path.{_≡_, refl, sym, ap, _∙_}
+use mathlib.Core.Bool.{Bool, true, false, not, _||_}
+use mathlib.Core.Logic.{_⊎_, inl, inr}
+use mathlib.Core.List.{List, [], _∷_}
+use lib.Dec.{leb, ltb, eqb}
+use lib.IntN.{ℤ, pos, negsuc, natAbs}
+use borrow.Author.Tests.{leb-true, le-leb, ltb-true, lt-ltb, eqb-true, eq-eqb, ne-eqb}
+use Rattle.time.specs.declared.Time.{Time}
+use Rattle.time.specs.Time.{ticks}
+use Rattle.deadlines.specs.declared.Deadline.{Deadline}
+use Rattle.deadlines.specs.declared.Deadline.the-variants.{At, Never}
+use Rattle.deadlines.specs.Deadlines.{is-at, is-by}
+use Rattle.calls.specs.declared.types.Timed.{Timed}
+use Rattle.calls.specs.declared.types.Timed.the-variants as Timed
+use Rattle.calls.specs.declared.types.Call.{Call}
+use Rattle.calls.specs.declared.types.Call.the-variants as Call
+use Rattle.calls.specs.declared.types.Kind.{Kind}
+use Rattle.calls.specs.declared.types.Kind.the-variants as Kind
+use Rattle.calls.specs.declared.types.Dated.{Dated}
+use Rattle.calls.specs.declared.types.Dated.the-variants as Dated
+use Rattle.calls.specs.declared.types.Bytes.{Bytes}
+use Rattle.calls.specs.declared.types.Bytes.the-variants as Bytes
+use Rattle.calls.specs.declared.types.Axes.{Axes}
+use Rattle.calls.specs.declared.types.Axes.the-variants as Axes
+use Rattle.calls.specs.Facts.{timed-facts, facts, bringing}
+use Rattle.calls.specs.Table.{wrong-length, beyond, any-beyond, out-of-range, late, too-late, goes-back, due-by, due-at, before-due, beside-due, rows, start-rows, refusal, start-refusal}
+use Rattle.calls.specs.Theorems.Found.{never, Fault, fault, First, Tells, Finds, found-first, first-is-found}
+
+-- ---- the faults of 01's table, for each call by its own arguments
+
+-- an axis is beyond ±1,000,000,000
+abbrev pub Beyond : ℤ → Type 0
+Beyond axis = 1000000000 < natAbs axis
+
+-- next due is at or before this time, and is this time
+abbrev pub DueBy : Deadline → Time → Type 0
+DueBy Never now = ⊥
+DueBy (At d) now = ticks d ≤ ticks now
+
+abbrev pub DueAt : Deadline → Time → Type 0
+DueAt Never now = ⊥
+DueAt (At d) now = ticks d ≡ ticks now
+
+-- 1: the buffer for the stored image is not 19 bytes
+abbrev pub WrongLength : Call → Type 0
+WrongLength (Call.At now t) = ⊥
+WrongLength (Call.Temperature x) = ⊥
+WrongLength (Call.Select on) = ⊥
+WrongLength (Call.View address) = ⊥
+WrongLength (Call.StoredImage now n) = n ≡ 19 → ⊥
+
+-- 3 and 4: the call has a time, and it is so
+abbrev pub HasTime : Call → (Time → Type 0) → Type 0
+HasTime (Call.At now t) So = So now
+HasTime (Call.Temperature x) So = ⊥
+HasTime (Call.Select on) So = ⊥
+HasTime (Call.View address) So = ⊥
+HasTime (Call.StoredImage now n) So = So now
+
+-- 2, 5 and 6: of the timed calls
+abbrev pub AxisBeyond : Timed → Type 0
+AxisBeyond (Timed.Accelerations x y z) = Beyond x ⊎ (Beyond y ⊎ Beyond z)
+AxisBeyond (Timed.Supply rail) = ⊥
+AxisBeyond Timed.Due = ⊥
+AxisBeyond (Timed.Rising mosi) = ⊥
+AxisBeyond Timed.Falling = ⊥
+AxisBeyond (Timed.Pins before after) = ⊥
+
+abbrev pub DueFirst : Deadline → Time → Timed → Type 0
+DueFirst due now (Timed.Accelerations x y z) = DueBy due now
+DueFirst due now (Timed.Supply rail) = DueBy due now
+DueFirst due now Timed.Due = ⊥
+DueFirst due now (Timed.Rising mosi) = DueBy due now
+DueFirst due now Timed.Falling = DueBy due now
+DueFirst due now (Timed.Pins before after) = DueBy due now
+
+abbrev pub NotDue : Deadline → Time → Timed → Type 0
+NotDue due now (Timed.Accelerations x y z) = ⊥
+NotDue due now (Timed.Supply rail) = ⊥
+NotDue due now Timed.Due = DueAt due now → ⊥
+NotDue due now (Timed.Rising mosi) = ⊥
+NotDue due now Timed.Falling = ⊥
+NotDue due now (Timed.Pins before after) = ⊥
+
+abbrev pub IsTimed : Call → (Time → Timed → Type 0) → Type 0
+IsTimed (Call.At now t) So = So now t
+IsTimed (Call.Temperature x) So = ⊥
+IsTimed (Call.Select on) So = ⊥
+IsTimed (Call.View address) So = ⊥
+IsTimed (Call.StoredImage now n) So = ⊥
+
+-- 01's table, in its order
+abbrev pub faults : Time → Deadline → Call → List Fault
+faults last due c =
+    fault 1 (WrongLength c)
+    ∷ fault 3 (HasTime c (λ now. 2 ^ 32 ≤ now .0))
+    ∷ fault 4 (HasTime c (λ now. ticks now < ticks last))
+    ∷ fault 2 (IsTimed c (λ now t. AxisBeyond t))
+    ∷ fault 5 (IsTimed c (λ now t. DueFirst due now t))
+    ∷ fault 6 (IsTimed c (λ now t. NotDue due now t))
+    ∷ []
+
+-- 01: a start has 1 and 3
+abbrev pub start-faults : Time → ℕ → List Fault
+start-faults now length = fault 1 (length ≡ 19 → ⊥) ∷ fault 3 (2 ^ 32 ≤ now .0) ∷ []
+
+-- ---- the tests of the table find exactly these
+
+length-only : (n : ℕ) → not (eqb n 19) ≡ true → n ≡ 19 → ⊥
+length-only n p e = never (sym (ap not (eq-eqb n 19 e)) ∙ p)
+
+length-whole : (n : ℕ) → (n ≡ 19 → ⊥) → not (eqb n 19) ≡ true
+length-whole n p = ap not (ne-eqb n 19 p)
+
+axis-only : (axis : ℤ) → beyond axis ≡ true → Beyond axis
+unfolding beyond
+axis-only (pos n) p = ltb-true 1000000000 n (go (ltb 1000000000 n) p)
+  where
+    go : (b : Bool) → (b || false) ≡ true → b ≡ true
+    go true q = refl
+    go false q = q
+axis-only (negsuc n) p = let q : 999999999 < n = ltb-true 999999999 n p in omega arith
+
+axis-whole : (axis : ℤ) → Beyond axis → beyond axis ≡ true
+unfolding beyond
+axis-whole (pos n) p = ap (λ (b : Bool). b || false) (lt-ltb 1000000000 n p)
+axis-whole (negsuc n) p = lt-ltb 999999999 n (omega arith)
+
+either-only : {P Q : Type 0} (a b : Bool) → (a ≡ true → P) → (b ≡ true → Q) → (a || b) ≡ true → P ⊎ Q
+either-only true b p q e = inl (p refl)
+either-only false b p q e = inr (q e)
+
+either-left : (a b : Bool) → a ≡ true → (a || b) ≡ true
+either-left true b e = refl
+either-left false b e = never e
+
+either-right : (a b : Bool) → b ≡ true → (a || b) ≡ true
+either-right true b e = refl
+either-right false b e = e
+
+axes-only : (x y z : ℤ) → any-beyond x y z ≡ true → Beyond x ⊎ (Beyond y ⊎ Beyond z)
+unfolding any-beyond
+axes-only x y z p = either-only (beyond x) (beyond y || beyond z) (axis-only x) (either-only (beyond y) (beyond z) (axis-only y) (axis-only z)) p
+
+axes-whole : (x y z : ℤ) → Beyond x ⊎ (Beyond y ⊎ Beyond z) → any-beyond x y z ≡ true
+unfolding any-beyond
+axes-whole x y z (inl p) = either-left (beyond x) _ (axis-whole x p)
+axes-whole x y z (inr (inl p)) = either-right (beyond x) _ (either-left (beyond y) _ (axis-whole y p))
+axes-whole x y z (inr (inr p)) = either-right (beyond x) _ (either-right (beyond y) _ (axis-whole z p))
+
+by-only : (due : Deadline) (now : Time) → is-by due now ≡ true → DueBy due now
+unfolding is-by
+by-only Never now p = never p
+by-only (At d) now p = leb-true (ticks d) (ticks now) p
+
+by-whole : (due : Deadline) (now : Time) → DueBy due now → is-by due now ≡ true
+unfolding is-by
+by-whole Never now p = absurd p
+by-whole (At d) now p = le-leb (ticks d) (ticks now) p
+
+at-only : (due : Deadline) (now : Time) → is-at due now ≡ true → DueAt due now
+unfolding is-at
+at-only Never now p = never p
+at-only (At d) now p = eqb-true (ticks d) (ticks now) p
+
+at-whole : (due : Deadline) (now : Time) → DueAt due now → is-at due now ≡ true
+unfolding is-at
+at-whole Never now p = absurd p
+at-whole (At d) now p = eq-eqb (ticks d) (ticks now) p
+
+not-only : {P : Type 0} (b : Bool) → (P → b ≡ true) → not b ≡ true → P → ⊥
+not-only true f e p = never e
+not-only false f e p = never (f p)
+
+not-whole : {P : Type 0} (b : Bool) → (b ≡ true → P) → (P → ⊥) → not b ≡ true
+not-whole true f g = absurd (g (f refl))
+not-whole false f g = refl
+
+-- a test that does not apply
+never-tells : Tells ⊥ false
+never-tells = record { only = never; whole = absurd }
+
+length-tells : (n : ℕ) → Tells (n ≡ 19 → ⊥) (not (eqb n 19))
+length-tells n = record { only = length-only n; whole = length-whole n }
+
+late-tells : (now : Time) → Tells (2 ^ 32 ≤ now .0) (late now)
+unfolding late
+late-tells now = record { only = leb-true (2 ^ 32) (now .0); whole = le-leb (2 ^ 32) (now .0) }
+
+back-tells : (last now : Time) → Tells (ticks now < ticks last) (ltb (ticks now) (ticks last))
+back-tells last now = record { only = ltb-true (ticks now) (ticks last); whole = lt-ltb (ticks now) (ticks last) }
+
+by-tells : (due : Deadline) (now : Time) → Tells (DueBy due now) (is-by due now)
+by-tells due now = record { only = by-only due now; whole = by-whole due now }
+
+not-at-tells : (due : Deadline) (now : Time) → Tells (DueAt due now → ⊥) (not (is-at due now))
+not-at-tells due now = record { only = not-only (is-at due now) (at-whole due now); whole = not-whole (is-at due now) (at-only due now) }
+
+module _ (last : Time) (due : Deadline) where
+  length-row : (c : Call) → Tells (WrongLength c) (wrong-length (facts c .bytes))
+  unfolding facts timed-facts wrong-length
+  length-row (Call.At now (Timed.Accelerations x y z)) = never-tells
+  length-row (Call.At now (Timed.Supply rail)) = never-tells
+  length-row (Call.At now Timed.Due) = never-tells
+  length-row (Call.At now (Timed.Rising mosi)) = never-tells
+  length-row (Call.At now Timed.Falling) = never-tells
+  length-row (Call.At now (Timed.Pins before after)) = never-tells
+  length-row (Call.Temperature x) = never-tells
+  length-row (Call.Select on) = never-tells
+  length-row (Call.View address) = never-tells
+  length-row (Call.StoredImage now n) = length-tells n
+
+  -- every timed call has its time
+  timed-time : (now : Time) (t : Timed) → timed-facts now t .time ≡ Dated.At now
+  unfolding timed-facts
+  timed-time now (Timed.Accelerations x y z) = refl
+  timed-time now (Timed.Supply rail) = refl
+  timed-time now Timed.Due = refl
+  timed-time now (Timed.Rising mosi) = refl
+  timed-time now Timed.Falling = refl
+  timed-time now (Timed.Pins before after) = refl
+
+  limit-row : (c : Call) → Tells (HasTime c (λ now. 2 ^ 32 ≤ now .0)) (too-late (facts c .time))
+  unfolding facts too-late
+  limit-row (Call.At now t) = rw (timed-time now t) (late-tells now)
+  limit-row (Call.Temperature x) = never-tells
+  limit-row (Call.Select on) = never-tells
+  limit-row (Call.View address) = never-tells
+  limit-row (Call.StoredImage now n) = late-tells now
+
+  back-row : (c : Call) → Tells (HasTime c (λ now. ticks now < ticks last)) (goes-back last (facts c .time))
+  unfolding facts goes-back
+  back-row (Call.At now t) = rw (timed-time now t) (back-tells last now)
+  back-row (Call.Temperature x) = never-tells
+  back-row (Call.Select on) = never-tells
+  back-row (Call.View address) = never-tells
+  back-row (Call.StoredImage now n) = back-tells last now
+
+  axis-row : (c : Call) → Tells (IsTimed c (λ now t. AxisBeyond t)) (out-of-range (facts c .axes))
+  unfolding facts timed-facts out-of-range
+  axis-row (Call.At now (Timed.Accelerations x y z)) = record { only = axes-only x y z; whole = axes-whole x y z }
+  axis-row (Call.At now (Timed.Supply rail)) = never-tells
+  axis-row (Call.At now Timed.Due) = never-tells
+  axis-row (Call.At now (Timed.Rising mosi)) = never-tells
+  axis-row (Call.At now Timed.Falling) = never-tells
+  axis-row (Call.At now (Timed.Pins before after)) = never-tells
+  axis-row (Call.Temperature x) = never-tells
+  axis-row (Call.Select on) = never-tells
+  axis-row (Call.View address) = never-tells
+  axis-row (Call.StoredImage now n) = never-tells
+
+  due-row : (c : Call) → Tells (IsTimed c (λ now t. DueFirst due now t)) (before-due due (facts c .kind) (facts c .time))
+  unfolding facts timed-facts before-due due-by
+  due-row (Call.At now (Timed.Accelerations x y z)) = by-tells due now
+  due-row (Call.At now (Timed.Supply rail)) = by-tells due now
+  due-row (Call.At now Timed.Due) = never-tells
+  due-row (Call.At now (Timed.Rising mosi)) = by-tells due now
+  due-row (Call.At now Timed.Falling) = by-tells due now
+  due-row (Call.At now (Timed.Pins before after)) = by-tells due now
+  due-row (Call.Temperature x) = never-tells
+  due-row (Call.Select on) = never-tells
+  due-row (Call.View address) = never-tells
+  due-row (Call.StoredImage now n) = never-tells
+
+  not-due-row : (c : Call) → Tells (IsTimed c (λ now t. NotDue due now t)) (beside-due due (facts c .kind) (facts c .time))
+  unfolding facts timed-facts beside-due due-at
+  not-due-row (Call.At now (Timed.Accelerations x y z)) = never-tells
+  not-due-row (Call.At now (Timed.Supply rail)) = never-tells
+  not-due-row (Call.At now Timed.Due) = not-at-tells due now
+  not-due-row (Call.At now (Timed.Rising mosi)) = never-tells
+  not-due-row (Call.At now Timed.Falling) = never-tells
+  not-due-row (Call.At now (Timed.Pins before after)) = never-tells
+  not-due-row (Call.Temperature x) = never-tells
+  not-due-row (Call.Select on) = never-tells
+  not-due-row (Call.View address) = never-tells
+  not-due-row (Call.StoredImage now n) = never-tells
+
+  finds : (c : Call) → Finds (record { last = last; due = due; call = facts c }) rows (faults last due c)
+  finds c = ((refl, length-row c), ((refl, limit-row c), ((refl, back-row c), ((refl, axis-row c), ((refl, due-row c), ((refl, not-due-row c), tt))))))
+
+  -- the number that a call gets is that of the first fault, or 0
+  pub refused-only : (c : Call) → First (faults last due c) (refusal last due c)
+  unfolding refusal
+  refused-only c = found-first _ rows (faults last due c) (finds c)
+
+  -- and it gets the number of the first fault, or 0
+  pub refused-whole : (c : Call) (n : ℕ) → First (faults last due c) n → refusal last due c ≡ n
+  unfolding refusal
+  refused-whole c n p = first-is-found _ rows (faults last due c) (finds c) n p
+
+module _ (now : Time) (length : ℕ) where
+  start-finds : Finds (bringing now length) start-rows (start-faults now length)
+  unfolding wrong-length too-late
+  start-finds = ((refl, length-tells length), ((refl, late-tells now), tt))
+
+  pub start-refused-only : First (start-faults now length) (start-refusal now length)
+  unfolding start-refusal
+  start-refused-only = found-first _ start-rows (start-faults now length) start-finds
+
+  pub start-refused-whole : (n : ℕ) → First (start-faults now length) n → start-refusal now length ≡ n
+  unfolding start-refusal
+  start-refused-whole n p = first-is-found _ start-rows (start-faults now length) start-finds n p

@@ -1,0 +1,81 @@
+-- The order of the refusals: read off the table, and computed on calls with several faults. Assumes nothing.
+use Prim.Native.Nat.{ℕ, _^_}
+use mathlib.Core.Path.{_≡_, refl}
+use mathlib.Core.List.{List, [], _∷_}
+use mathlib.Core.Bool.{true}
+use lib.IntN.{ℤ, pos}
+use Rattle.time.specs.declared.Time.{Time}
+use Rattle.i2c.specs.declared.types.Levels.{Levels}
+use Rattle.deadlines.specs.declared.Deadline.{Deadline}
+use Rattle.deadlines.specs.declared.Deadline.the-variants.{At, Never}
+use Rattle.deadlines.specs.Deadlines.{is-at, is-by}
+use Rattle.calls.specs.declared.types.Timed.{Timed}
+use Rattle.calls.specs.declared.types.Timed.the-variants as Timed
+use Rattle.calls.specs.declared.types.Call.the-variants as Call
+use Rattle.calls.specs.Facts.{timed-facts, facts}
+use Rattle.calls.specs.Table.{wrong-length, beyond, any-beyond, out-of-range, late, too-late, goes-back, due-by, due-at, before-due, beside-due, first-found, rows, start-rows, refusal, start-refusal}
+use Rattle.calls.specs.Theorems.Found.{numbers}
+
+-- 01's order
+pub order : numbers rows ≡ 1 ∷ 3 ∷ 4 ∷ 2 ∷ 5 ∷ 6 ∷ []
+order = refl
+
+pub start-order : numbers start-rows ≡ 1 ∷ 3 ∷ []
+start-order = refl
+
+-- whole seconds
+abbrev s : ℕ → Time
+s n = record { 0 = n; 1 = 0 }
+
+abbrev far : Time
+far = s (2 ^ 32)
+
+abbrev wide : ℤ
+wide = pos 1000000001
+
+-- with all faults, and then without the one that was found
+abbrev starts : List ℕ
+starts = start-refusal far 18 ∷ start-refusal far 19 ∷ start-refusal (s 9) 19 ∷ []
+
+abbrev stored-images : List ℕ
+stored-images =
+    refusal (s (2 ^ 33)) Never (Call.StoredImage far 20)
+    ∷ refusal (s (2 ^ 33)) Never (Call.StoredImage far 19)
+    ∷ refusal (s 9) (At (s 1)) (Call.StoredImage (s 8) 19)
+    ∷ refusal (s 9) (At (s 1)) (Call.StoredImage (s 9) 19)
+    ∷ []
+
+abbrev accelerations : List ℕ
+accelerations =
+    refusal (s (2 ^ 33)) (At (s 1)) (Call.At far (Timed.Accelerations wide wide wide))
+    ∷ refusal (s 9) (At (s 1)) (Call.At (s 8) (Timed.Accelerations (pos 0) wide (pos 0)))
+    ∷ refusal (s 9) (At (s 9)) (Call.At (s 9) (Timed.Accelerations (pos 0) (pos 0) wide))
+    ∷ refusal (s 9) (At (s 9)) (Call.At (s 9) (Timed.Accelerations (pos 1000000000) (pos 0) (pos 0)))
+    ∷ refusal (s 9) (At (s 10)) (Call.At (s 9) (Timed.Accelerations (pos 1000000000) (pos 0) (pos 0)))
+    ∷ []
+
+abbrev timed : Timed → List ℕ
+timed t =
+    refusal (s (2 ^ 33)) (At (s 1)) (Call.At far t)
+    ∷ refusal (s 9) (At (s 1)) (Call.At (s 8) t)
+    ∷ refusal (s 9) (At (s 9)) (Call.At (s 9) t)
+    ∷ refusal (s 9) (At (s 10)) (Call.At (s 9) t)
+    ∷ refusal (s 9) Never (Call.At (s 9) t)
+    ∷ []
+
+abbrev high : Levels
+high = record { scl = true; sda = true }
+
+pub record Ordered : Type 0 where
+  pub start : starts ≡ 1 ∷ 3 ∷ 0 ∷ []
+  pub stored-image : stored-images ≡ 1 ∷ 3 ∷ 4 ∷ 0 ∷ []
+  pub accelerations : accelerations ≡ 3 ∷ 4 ∷ 2 ∷ 5 ∷ 0 ∷ []
+  pub supply : timed (Timed.Supply 0) ≡ 3 ∷ 4 ∷ 5 ∷ 0 ∷ 0 ∷ []
+  pub rising : timed (Timed.Rising true) ≡ 3 ∷ 4 ∷ 5 ∷ 0 ∷ 0 ∷ []
+  pub falling : timed Timed.Falling ≡ 3 ∷ 4 ∷ 5 ∷ 0 ∷ 0 ∷ []
+  pub pins : timed (Timed.Pins high high) ≡ 3 ∷ 4 ∷ 5 ∷ 0 ∷ 0 ∷ []
+  pub due : timed Timed.Due ≡ 3 ∷ 4 ∷ 0 ∷ 6 ∷ 6 ∷ []
+
+pub ordered : Ordered
+unfolding timed-facts facts wrong-length beyond any-beyond out-of-range late too-late goes-back due-by due-at before-due beside-due first-found refusal start-refusal is-at is-by
+ordered = record { start = refl; stored-image = refl; accelerations = refl; supply = refl; rising = refl; falling = refl; pins = refl; due = refl }

@@ -1,0 +1,12 @@
+use borrow.Author.Needs.{needs}
+use Rattle.sensor.proofs.mode.cleared.Statement.{statement}
+use Rattle.sensor.proofs.mode.cleared.Tie as tie
+
+with-test-requires : tie.Need-with-test-requires
+with-test-requires c κs = search needs
+
+returns : tie.Need-returns
+returns c = simp (c .before .with-test .ensures)
+
+pub cleared-spec : {M : Type 1} → statement M
+cleared-spec = tie.close (tie.spec with-test-requires returns)

@@ -1,0 +1,15 @@
+use borrow.Author.Needs.{needs}
+use Rattle.sensor.proofs.types.Sensor.from_nonvolatile.Statement.{statement}
+use Rattle.sensor.proofs.types.Sensor.from_nonvolatile.Tie as tie
+
+blank-requires : tie.Need-blank-requires
+blank-requires c κs = search needs
+
+copy-image-requires : tie.Need-copy-image-requires
+copy-image-requires c κs = search needs
+
+returns : tie.Need-returns
+returns c = simp (c .copy-image .ensures, c .before .blank .ensures)
+
+pub from-nonvolatile-spec : {M : Type 1} → statement M
+from-nonvolatile-spec = tie.close (tie.spec blank-requires copy-image-requires returns)

@@ -1,0 +1,135 @@
+-- Acquisition, pauses, automatic mode, soft reset. Assumes nothing.
+use Prim.Native.Nat.{ℕ}
+use mathlib.Core.Bool.{Bool, true, false, cond, _&&_, _||_}
+use lib.ListN.{replicate}
+use lib.IntN.{pos}
+use Rattle.time.specs.declared.Time.{Time}
+use Rattle.time.specs.declared.Duration.{Duration}
+use Rattle.time.specs.Time.{plus, from-millis, from-micros}
+use Rattle.filter.specs.Filter.{made}
+use Rattle.interrupts.specs.State as I
+use Rattle.interrupts.specs.Pin.{output, verifying}
+use Rattle.i2c.specs.Engine as E
+use Rattle.spi.specs.declared.types.Sent.the-variants as Sent
+use Rattle.spi.specs.Frame as F
+use Rattle.reads.specs.Reads as R
+use Rattle.deadlines.specs.declared.Deadline.{Deadline}
+use Rattle.deadlines.specs.declared.Deadline.the-variants.{At, Never}
+use Rattle.deadlines.specs.Deadlines.{is-set, with-wake, with-pause, with-quiet, with-irq-hold, with-image}
+use Rattle.control.specs.Waits.{acquisition-delay, pauses, pause-length}
+use Rattle.control.specs.Automatic.{holds, pauses-again, may-pause}
+use Rattle.registers.specs.Map.{at, measurement, operation, bandwidth, latch-INT, wake-up-pause, new-data-INT}
+use Rattle.sampling.specs.declared.types.Test.the-variants as Test
+use Rattle.sampling.specs.declared.types.Sampling.{Sampling}
+use Rattle.sampling.specs.Phase as Phase
+use Rattle.sensor.specs.declared.types.Sensor.{Sensor}
+use Rattle.sensor.specs.Record.{with-registers, with-frame, with-i2c, with-reads, with-sampling, with-deadlines, with-interrupts, is-copying, automatic, is-writing, tests, with-asleep}
+use Rattle.sensor.specs.Image.{copy-image, reset-registers}
+
+-- ---- acquisition
+
+-- awake with an empty filter and no scan counted
+abbrev pub acquiring : Sampling → ℕ → Sampling
+acquiring g b = record { filter = made b; filtered = g .filtered; clock = g .clock; asleep = false; «auto_cycles» = 0; test = g .test; «data_ready» = g .«data_ready» }
+
+-- acquisition starts: samples begin so that the first scan is complete after `ready` (`start_acquisition`)
+abbrev pub start-acquisition : Sensor → Time → Duration → Sensor
+start-acquisition s now ready =
+    with-interrupts
+    (with-reads
+    (with-sampling
+    (with-deadlines s (with-wake (with-pause (s .deadlines) Never) (At (plus now (acquisition-delay ready)))))
+    (acquiring (s .sampling) (bandwidth (at (s .registers) measurement))))
+    (R.released (s .reads)))
+    (I.restart-acquisition (s .interrupts))
+
+-- ---- pauses
+
+-- 01: pauses of 20, 80, 320 or 2560 ms, by wake_up_pause
+abbrev pub pause-of : Sensor → Duration
+pause-of s = pause-length (wake-up-pause (at (s .registers) operation)) pauses
+
+-- only automatic mode ends a pause by itself
+unfoldable pub pause-end : Sensor → Time → Deadline
+pause-end s now = cond (automatic s) (At (plus now (pause-of s))) Never
+
+-- the sensor sleeps (`pause`)
+abbrev pub pause : Sensor → Time → Sensor
+pause s now =
+    with-frame
+    (with-deadlines (with-sampling s (with-asleep (s .sampling) true)) (with-pause (with-wake (s .deadlines) Never) (pause-end s now)))
+    (F.released (s .frame))
+
+-- ---- the interrupt pin
+
+-- a scan of new data shows where new_data_INT is set
+unfoldable pub shows-new-data : Sensor → Bool
+shows-new-data s = s .sampling .«data_ready» && new-data-INT (at (s .registers) operation)
+
+-- the hold of automatic mode, new data, or a criterion (`interrupt`)
+unfoldable pub interrupt : Sensor → Bool
+interrupt s =
+    is-set (s .deadlines .«irq_hold»)
+    || (shows-new-data s
+    || output (s .interrupts) (s .registers))
+
+-- a criterion shows, and one is being verified
+abbrev pub criterion : Sensor → Bool
+criterion s = output (s .interrupts) (s .registers)
+
+abbrev pub verifies : Sensor → Bool
+verifies s = verifying (s .interrupts) (s .registers)
+
+-- ---- automatic mode (`automatic_control`), in three steps
+
+unfoldable pub paused-again : Sensor → Time → Sensor
+paused-again s now = cond (pauses-again (s .sampling .asleep) (is-set (s .deadlines .pause))) (pause s now) s
+
+-- 330 µs
+unfoldable pub held : Sensor → Time → Bool → Sensor
+held s now was-criterion =
+    cond (holds was-criterion (latch-INT (at (s .registers) operation)) (criterion s))
+    (with-deadlines s (with-irq-hold (s .deadlines) (At (plus now (from-micros 330)))))
+    s
+
+unfoldable pub may-sleep : Sensor → Bool → Bool
+may-sleep s verify =
+    may-pause verify (s .sampling .asleep) (is-set (s .deadlines .wake)) (tests (s .sampling .test)) (is-copying s) (is-writing s)
+    (Phase.acquired (s .sampling)) (interrupt s) (verifies s)
+
+unfoldable pub verified : Sensor → Time → Bool → Sensor
+verified s now verify = cond (may-sleep s verify) (pause s now) s
+
+-- outside automatic mode no hold and no pause runs
+abbrev pub manual : Sensor → Sensor
+manual s = with-deadlines s (with-pause (with-irq-hold (s .deadlines) Never) Never)
+
+unfoldable pub automatic-control : Sensor → Time → Bool → Bool → Sensor
+automatic-control s now was-criterion verify =
+    cond (automatic s) (verified (held (paused-again s now) now was-criterion) now verify) (manual s)
+
+-- ---- soft reset (`soft_reset`)
+
+-- no code, no self test, no new data
+abbrev pub cleared : Sampling → Sampling
+cleared g = record { filter = g .filter; filtered = replicate 3 (pos 0); clock = g .clock; asleep = g .asleep; «auto_cycles» = g .«auto_cycles»; test = Test.Off; «data_ready» = false }
+
+-- registers, criteria and the I2C state as at a start, and the image copied
+abbrev pub reloaded : Sensor → Sensor
+reloaded s = copy-image (with-interrupts (with-i2c (with-registers s reset-registers) E.default) I.new)
+
+-- quiet for 10 µs; an image copy and the hold are dropped, and the byte being sent
+abbrev pub quieted : Sensor → Time → Sensor
+quieted s now =
+    with-frame
+    (with-deadlines
+    (with-reads (with-sampling s (cleared (s .sampling))) (R.forgotten (s .reads)))
+    (with-quiet (with-image (with-irq-hold (s .deadlines) Never) Never) (At (plus now (from-micros 10)))))
+    (F.released (F.sending (s .frame) Sent.Nothing))
+
+-- ready after 30 ms from sleep, else after 1300 µs
+unfoldable pub reset-time : Bool → Duration
+reset-time asleep = cond asleep (from-millis 30) (from-micros 1300)
+
+abbrev pub soft-reset : Sensor → Time → Sensor
+soft-reset s now = start-acquisition (quieted (reloaded s) now) now (reset-time (s .sampling .asleep))

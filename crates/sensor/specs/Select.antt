@@ -1,0 +1,21 @@
+-- Select (`set_selected`). Assumes nothing.
+use mathlib.Core.Bool.{Bool, cond, not, _&&_}
+use Rattle.i2c.specs.Engine as E
+use Rattle.spi.specs.Frame as F
+use Rattle.reads.specs.Reads as R
+use Rattle.sensor.specs.declared.types.Sensor.{Sensor}
+use Rattle.sensor.specs.Record.{with-frame, with-i2c, with-reads, is-off}
+
+-- a change drops both interfaces' frames and the byte being sent
+abbrev pub reselected : Sensor → Bool → Sensor
+reselected s selected = with-reads (with-i2c (with-frame s (F.fresh selected)) (E.aborted (s .i2c))) (R.dropped (s .reads))
+
+unfoldable pub selected-to : Sensor → Bool → Sensor
+selected-to s selected = cond (F.changes (s .frame) selected) (reselected s selected) s
+
+-- 01: select 1 while off is forgotten
+unfoldable pub may-select : Sensor → Bool → Bool
+may-select s selected = selected && not (is-off s)
+
+abbrev pub set-selected : Sensor → Bool → Sensor
+set-selected s selected = selected-to s (may-select s selected)

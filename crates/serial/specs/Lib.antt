@@ -1,0 +1,3 @@
+pub mod Outputs
+pub mod SpiEdges
+pub mod I2cPins

@@ -1,0 +1,15 @@
+use borrow.Author.Needs.{needs}
+use Rattle.waits.proofs.supply.power_off.Statement.{statement}
+use Rattle.waits.proofs.supply.power_off.Tie as tie
+
+cut-requires : tie.Need-cut-requires
+cut-requires c κs = search needs
+
+off-requires : tie.Need-off-requires
+off-requires c κs = search needs
+
+returns : tie.Need-returns
+returns c = simp (c .off .ensures, c .before .before .cut .ensures)
+
+pub power-off-spec : {M : Type 1} → statement M
+power-off-spec = tie.close (tie.spec cut-requires off-requires returns)

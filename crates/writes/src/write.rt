@@ -1,0 +1,244 @@
+// Register writes (bma150/control.rs, `write_register`).
+ghost use mathlib.Core.Path.{_≡_};
+ghost use Rattle.writes.specs.Write as W;
+use control::types::SelfTest;
+use control::types::Sleep;
+use control::types::Written;
+use control::writes::copies_image;
+use control::writes::kept;
+use control::writes::resets_interrupts;
+use control::writes::self_test;
+use control::writes::sleep;
+use control::writes::turns_automatic;
+use control::writes::written;
+use deadlines::Deadline;
+use nv::WriteCycle;
+use registers::fields::CONTROL;
+use registers::fields::MEASUREMENT;
+use registers::fields::OPERATION;
+use registers::fields::STATUS;
+use registers::fields::bandwidth;
+use sampling::types::Test;
+use sensor::image::shadowing;
+use sensor::types::Operation;
+use sensor::types::Sensor;
+use sensor::types::Writing;
+use time::Duration;
+use time::Time;
+
+fn recounted(sensor: Sensor, again: bool) -> Sensor
+    ensures { λ r. ⌜ r ≡ W.recounted sensor again ⌝ }
+{
+    if again {
+        let mut s = sensor;
+        let mut g = s.sampling;
+        g.auto_cycles = 0;
+        s.sampling = g;
+        let i = s.interrupts;
+        s.interrupts = i.restart_acquisition();
+        return s;
+    }
+    sensor
+}
+
+fn interrupts_reset(sensor: Sensor) -> Sensor
+    ensures { λ r. ⌜ r ≡ W.interrupts-reset sensor ⌝ }
+{
+    let again = sensor.automatic();
+    let mut s = sensor;
+    let mut g = s.sampling;
+    g.data_ready = false;
+    s.sampling = g;
+    let d = s.deadlines;
+    s.deadlines = d.with_irq_hold(Deadline::Never);
+    let i = s.interrupts;
+    let r = s.registers;
+    s.interrupts = i.reset(r);
+    recounted(s, again)
+}
+
+fn interrupts_written(sensor: Sensor, value: u8) -> Sensor
+    ensures { λ r. ⌜ r ≡ W.interrupts-written sensor value ⌝ }
+{
+    if resets_interrupts(value) {
+        return interrupts_reset(sensor);
+    }
+    sensor
+}
+
+fn tested(sensor: Sensor, t: SelfTest) -> Sensor
+    ensures { λ r. ⌜ r ≡ W.tested t sensor ⌝ }
+{
+    let g = sensor.sampling;
+    let mut s = sensor;
+    match t {
+        SelfTest::Starts => {
+            s.registers[STATUS] = s.registers[STATUS] & 0x7f;
+            s.sampling = g.with_test(Test::Phases(4));
+            s
+        }
+        SelfTest::Stops => {
+            s.sampling = g.with_test(Test::Off);
+            s
+        }
+        SelfTest::Stays => s,
+    }
+}
+
+fn slept(sensor: Sensor, z: Sleep, now: Time) -> Sensor
+    ensures { λ r. ⌜ r ≡ W.slept z sensor now ⌝ }
+{
+    match z {
+        Sleep::Wakes => sensor.start_acquisition(now, Duration::from_millis(1)),
+        Sleep::Pauses => sensor.pause(now),
+        Sleep::Stays => sensor,
+    }
+}
+
+fn image_written(sensor: Sensor, value: u8, now: Time) -> Sensor
+    ensures { λ r. ⌜ r ≡ W.image-written sensor value now ⌝ }
+{
+    if copies_image(value) {
+        let mut s = sensor;
+        let d = s.deadlines;
+        s.deadlines = d.with_image(Deadline::At(now.plus(Duration::from_micros(300))));
+        return s;
+    }
+    sensor
+}
+
+fn sleep_written(sensor: Sensor, value: u8, now: Time) -> Sensor
+    ensures { λ r. ⌜ r ≡ W.sleep-written sensor value now ⌝ }
+{
+    let g = sensor.sampling;
+    let s = slept(sensor, sleep(g.asleep, value), now);
+    image_written(s, value, now)
+}
+
+fn control_written(sensor: Sensor, value: u8, now: Time) -> Sensor
+    ensures { λ r. ⌜ r ≡ W.control-written sensor value now ⌝ }
+{
+    let t = self_test(sensor.registers[CONTROL], value);
+    let mut a = sensor;
+    a.registers[CONTROL] = kept(value);
+    let b = interrupts_written(a, value);
+    let c = tested(b, t);
+    sleep_written(c, value, now)
+}
+
+fn measurement_written(sensor: Sensor, value: u8) -> Sensor
+    ensures { λ r. ⌜ r ≡ W.measurement-written sensor value ⌝ }
+{
+    let mut s = sensor;
+    s.registers[MEASUREMENT] = value;
+    let mut g = s.sampling;
+    let f = g.filter;
+    g.filter = f.select(bandwidth(value));
+    s.sampling = g;
+    s
+}
+
+fn mode_written(sensor: Sensor, turns: bool) -> Sensor
+    ensures { λ r. ⌜ r ≡ W.mode-written sensor turns ⌝ }
+{
+    if turns {
+        let d = sensor.deadlines;
+        let mut s = recounted(sensor, true);
+        s.deadlines = d.with_irq_hold(Deadline::Never);
+        return s;
+    }
+    sensor
+}
+
+fn operation_written(sensor: Sensor, value: u8) -> Sensor
+    ensures { λ r. ⌜ r ≡ W.operation-written sensor value ⌝ }
+{
+    let turns = turns_automatic(sensor.registers[OPERATION], value);
+    let mut s = sensor;
+    s.registers[OPERATION] = value;
+    let r = s.reads;
+    s.reads = shadowing(r, value);
+    mode_written(s, turns)
+}
+
+fn durations_written(sensor: Sensor, address: u8, value: u8) -> Sensor
+    ensures { λ r. ⌜ r ≡ W.durations-written sensor address value ⌝ }
+{
+    let mut s = sensor.put(address, value);
+    let i = s.interrupts;
+    let r = s.registers;
+    s.interrupts = i.configure(r);
+    s
+}
+
+fn applied(sensor: Sensor, w: Written, address: u8, value: u8, now: Time) -> Sensor
+    ensures { λ r. ⌜ r ≡ W.applied w sensor address value now ⌝ }
+{
+    match w {
+        Written::Ignored => sensor,
+        Written::Stored => sensor,
+        Written::Reset => sensor.soft_reset(now),
+        Written::Control => control_written(sensor, value, now),
+        Written::Measurement => measurement_written(sensor, value),
+        Written::Operation => operation_written(sensor, value),
+        Written::Durations => durations_written(sensor, address, value),
+        Written::Plain => sensor.put(address, value),
+    }
+}
+
+fn begun(sensor: Sensor, address: u8, value: u8, now: Time) -> Sensor
+    ensures { λ r. ⌜ r ≡ W.begun sensor address value now ⌝ }
+{
+    let c = WriteCycle::start(now);
+    let w = Writing {
+        operation: Operation::Running(c, address, value),
+    };
+    let mut s = sensor;
+    s.writing = w;
+    s
+}
+
+fn followed(sensor: Sensor, w: Written, address: u8, value: u8, now: Time) -> Sensor
+    ensures { λ r. ⌜ r ≡ W.followed w sensor address value now ⌝ }
+{
+    let was = sensor.criterion();
+    let s = applied(sensor, w, address, value, now);
+    s.automatic_control(now, was, false)
+}
+
+fn taken(sensor: Sensor, w: Written, address: u8, value: u8, now: Time) -> Sensor
+    ensures { λ r. ⌜ r ≡ W.taken w sensor address value now ⌝ }
+{
+    match w {
+        Written::Ignored => sensor,
+        Written::Stored => begun(sensor, address, value, now),
+        Written::Reset => followed(sensor, Written::Reset, address, value, now),
+        Written::Control => followed(sensor, Written::Control, address, value, now),
+        Written::Measurement => followed(sensor, Written::Measurement, address, value, now),
+        Written::Operation => followed(sensor, Written::Operation, address, value, now),
+        Written::Durations => followed(sensor, Written::Durations, address, value, now),
+        Written::Plain => followed(sensor, Written::Plain, address, value, now),
+    }
+}
+
+fn write_kind(sensor: Sensor, address: u8, value: u8) -> Written
+    ensures { λ r. ⌜ r ≡ W.write-kind sensor address value ⌝ }
+{
+    let g = sensor.sampling;
+    written(
+        address,
+        value,
+        sensor.registers[CONTROL],
+        sensor.is_quiet(),
+        sensor.is_copying(),
+        g.asleep,
+        sensor.is_writing(),
+    )
+}
+
+pub fn write_register(sensor: Sensor, address: u8, value: u8, now: Time) -> Sensor
+    ensures { λ r. ⌜ r ≡ W.write-register sensor address value now ⌝ }
+{
+    let w = write_kind(sensor, address, value);
+    taken(sensor, w, address, value, now)
+}
