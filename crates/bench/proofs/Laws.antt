@@ -1,4 +1,4 @@
--- Replies as what a call leaves and answers. Assumes nothing.
+-- Replies as what a call leaves and answers.
 use Prim.Native.Nat.{ℕ}
 use mathlib.Core.Path.{_≡_, refl, sym, ap, _∙_}
 use mathlib.Core.Bool.{Bool, true, false, cond}

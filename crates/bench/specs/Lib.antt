@@ -3,4 +3,5 @@ pub mod Text
 pub mod Line
 pub mod Run
 pub mod Block
-pub mod Whole
+pub mod Pieces
+pub mod Theorems

@@ -1,9 +1,10 @@
--- What a command leaves and answers, and the line that is written of it (01, "Bench program"). Assumes nothing.
+-- What a command leaves and answers, and the line that is written of it (01, "Bench program").
 use mathlib.Core.Path.{_≡_}
-use mathlib.Core.Bool.{Bool, cond}
+use mathlib.Core.Bool.{Bool}
 use mathlib.Core.List.{List, [], _∷_, _++_}
 use Prim.Native.Nat.{ℕ}
 use lib.Dec.{eqb}
+use Rattle.laws.specs.Notation.{if_then_else_, Image}
 use Rattle.time.specs.declared.Time.{Time}
 use Rattle.commands.specs.declared.Command.{Command}
 use Rattle.commands.specs.declared.Command.the-variants as Command
@@ -23,16 +24,16 @@ abbrev pub silent : Bma150 → ℕ → Called
 silent s n = record { number = n; sensor = s; adds = Added.nothing }
 
 -- a start begins with a new sensor; a refused one touches none
-unfoldable pub started : Bma150 → Time → List ℕ → Bma150
-started s t image = cond (eqb (start-number t image) 0) (after-start t image) s
+unfoldable pub started : Bma150 → Time → (image : Image) → Bma150
+started s t image = if eqb (start-number t image) 0 then after-start t image else s
 
 -- a start, a call of the host, or refusal 7, which changes nothing
-unfoldable pub commanded : Bma150 → Command → List ℕ → Called
+unfoldable pub commanded : Bma150 → Command → (image : Image) → Called
 commanded s (Command.Start t) image = silent (started s t image) (start-number t image)
 commanded s (Command.Host c) image = called s c
 commanded s Command.Bad image = silent s R.command
 
-abbrev pub step : Bma150 → Command → List ℕ → Bma150
+abbrev pub step : Bma150 → Command → (image : Image) → Bma150
 step s c image = commanded s c image .sensor
 
 -- ---- the line
@@ -49,12 +50,12 @@ unfoldable pub pins : Bma150 → List ℕ
 pins s = space ∷ bit (interrupt s) ∷ space ∷ drive-letter (output s) ∷ space ∷ drive-letter (data-output s) ∷ []
 
 -- command; `ok` or the table's word; pins after the command; what it adds; the trace's next due
-unfoldable pub line : Bool → ℕ → Called → List ℕ
+unfoldable pub line : (trace : Bool) (command : ℕ) → Called → List ℕ
 line trace command k =
     hex command ++ (space ∷ []) ++ word (k .number) ++ pins (k .sensor) ++ added-text (k .adds) ++ due-text trace (next-due (k .sensor)) ++ (line-feed ∷ [])
 
 -- the line of the command c, whose first byte is b
-abbrev pub said : Bool → ℕ → Bma150 → Command → List ℕ → List ℕ
+abbrev pub said : (trace : Bool) (b : ℕ) → Bma150 → Command → (image : Image) → List ℕ
 said trace b s c image = line trace b (commanded s c image)
 
 -- ---- what the code hands from the step to the line
@@ -62,7 +63,7 @@ said trace b s c image = line trace b (commanded s c image)
 abbrev pub no-extra : Extra
 no-extra = Extra.Nothing
 
-unfoldable pub extra-adds : Extra → List ℕ → Added
+unfoldable pub extra-adds : Extra → (image : Image) → Added
 extra-adds Extra.Nothing image = Added.nothing
 extra-adds (Extra.Reported report) image = Added.report (report-values report)
 extra-adds (Extra.Viewed view) image = Added.viewed (view-value view)

@@ -1,4 +1,4 @@
--- Nineteen bytes copied one after the other. Assumes nothing.
+-- Nineteen bytes copied one after the other.
 use Prim.Native.Nat.{ℕ, _+_, _<_}
 use mathlib.Core.Path.{_≡_, sym, ap, _∙_}
 use mathlib.Core.List.{List, [], _∷_, _++_}

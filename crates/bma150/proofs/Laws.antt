@@ -1,4 +1,4 @@
--- What a timed call reports is what it adds. Assumes nothing.
+-- What a timed call reports is what it adds.
 use mathlib.Core.Path.{_≡_, refl}
 use Rattle.time.specs.declared.Time.{Time}
 use Rattle.calls.specs.declared.types.Timed.{Timed}

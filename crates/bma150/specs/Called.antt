@@ -1,9 +1,10 @@
--- What a call leaves and answers, for all arguments. Assumes nothing.
+-- What a call leaves and answers, for all arguments.
 use Prim.Native.Nat.{ℕ}
 use mathlib.Core.Bool.{Bool, false}
 use mathlib.Core.List.{List, []}
 use mathlib.Core.Option.{Option}
 use lib.ListN.{length}
+use Rattle.laws.specs.Notation.{Image}
 use Rattle.time.specs.declared.Time.{Time}
 use Rattle.time.specs.Time.{time}
 use Rattle.spi.specs.declared.types.Drive.{Drive}
@@ -16,7 +17,7 @@ use Rattle.calls.specs.Table.{refusal, start-refusal, unless-refused}
 use Rattle.sensor.specs.declared.types.Sensor.{Sensor}
 use Rattle.sensor.specs.Image.{nonvolatile, from-nonvolatile, stock}
 use Rattle.sensor.specs.Mode as Mode
-use Rattle.sensor.specs.Bytes.{peek}
+use Rattle.sensor.specs.RegisterReads.{peek}
 use Rattle.sensor.specs.Select.{set-selected}
 use Rattle.writes.specs.Samples.{interaction-deadline, sync-local-until}
 use Rattle.serial.specs.Outputs as Outputs
@@ -24,22 +25,22 @@ use Rattle.serial.specs.SpiEdges.{rising-at, falling-at}
 use Rattle.serial.specs.I2cPins.{i2c-pins-at}
 use Rattle.waits.specs.declared.types.Report.{Report}
 use Rattle.waits.specs.declared.types.Served.{Served}
-use Rattle.waits.specs.Supply.{silently, set-supply, set-input, set-temperature}
+use Rattle.waits.specs.Supply.{without-report, set-supply, set-input, set-temperature}
 use Rattle.waits.specs.Due.{at-deadline}
 use Rattle.bma150.specs.declared.host.Bma150.{Bma150}
 use Rattle.bma150.specs.Values.{report-values, view-value}
 
 -- ---- a start: its number, and the sensor that it hands out
 
-abbrev pub start-number : Time → List ℕ → ℕ
+abbrev pub start-number : (now : Time) (image : Image) → ℕ
 start-number now image = start-refusal now (length image)
 
 -- it sets the last accepted time
-abbrev pub started : Time → List ℕ → Bma150
+abbrev pub started : (now : Time) (image : Image) → Bma150
 started now image = record { sensor = from-nonvolatile now image; last = now }
 
 -- a refused start's sensor is the stock image's at time 0
-unfoldable pub after-start : Time → List ℕ → Bma150
+unfoldable pub after-start : (now : Time) (image : Image) → Bma150
 after-start now image = unless-refused (start-number now image) (started (time 0) stock) (started now image)
 
 -- ---- what an accepted call answers beside its number: a report, a viewed byte or its absence, the bytes put in the buffer
@@ -58,11 +59,11 @@ reported (Added.viewed value) = []
 reported (Added.put bytes) = []
 
 -- the answer of a view
-abbrev pub of-view : Option ℕ → Added
+abbrev pub of-view : (value : Option ℕ) → Added
 of-view value = Added.viewed value
 
 -- the lent buffer after the call
-unfoldable pub put-in : Added → List ℕ → List ℕ
+unfoldable pub put-in : Added → (buffer : List ℕ) → List ℕ
 put-in Added.nothing buffer = buffer
 put-in (Added.report values) buffer = buffer
 put-in (Added.viewed value) buffer = buffer
@@ -71,13 +72,13 @@ put-in (Added.put bytes) buffer = bytes
 -- ---- an accepted call
 
 -- 01: a timed call is `sync_local_until(now, false)` and then this
-unfoldable pub effect : Sensor → Time → Timed → Served
-effect s now (Timed.Accelerations x y z) = silently (set-input s x y z)
+unfoldable pub effect : Sensor → (now : Time) → Timed → Served
+effect s now (Timed.Accelerations x y z) = without-report (set-input s x y z)
 effect s now (Timed.Supply rail) = set-supply s rail now
 effect s now Timed.Due = at-deadline s now
-effect s now (Timed.Rising mosi) = silently (rising-at s mosi now)
-effect s now Timed.Falling = silently (falling-at s now)
-effect s now (Timed.Pins before after) = silently (i2c-pins-at s before after now)
+effect s now (Timed.Rising mosi) = without-report (rising-at s mosi now)
+effect s now Timed.Falling = without-report (falling-at s now)
+effect s now (Timed.Pins before after) = without-report (i2c-pins-at s before after now)
 
 -- supply and due calls report
 unfoldable pub timed-adds : Timed → Report → Added
@@ -89,7 +90,7 @@ timed-adds Timed.Falling r = Added.nothing
 timed-adds (Timed.Pins before after) r = Added.nothing
 
 -- the sensor at a timed call's moment, after it
-abbrev pub served : Bma150 → Time → Timed → Served
+abbrev pub served : Bma150 → (now : Time) → Timed → Served
 served s now t = effect (sync-local-until (s .sensor) now false) now t
 
 -- the sensor left; a timed call's time is then the last accepted one

@@ -1,4 +1,4 @@
--- The lent calls: what one leaves where the host keeps the sensor, and answers: what the call by value does. Assumes nothing.
+-- The lent calls: what one leaves where the host keeps the sensor, and answers: what the call by value does.
 use mathlib.Core.Path.{_≡_}
 use Rattle.time.specs.declared.Time.{Time}
 use Rattle.i2c.specs.declared.types.Levels.{Levels}

@@ -1,4 +1,4 @@
--- This paper's values of each answer. Assumes nothing.
+-- 01's values of each answer.
 use Prim.Native.Nat.{ℕ}
 use mathlib.Core.List.{List, [], _∷_}
 use mathlib.Core.Option.{Option, none, some}

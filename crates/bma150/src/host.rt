@@ -32,7 +32,7 @@ use waits::due::at_deadline;
 use waits::supply::set_input;
 use waits::supply::set_supply;
 use waits::supply::set_temperature;
-use waits::supply::silently;
+use waits::supply::without_report;
 use waits::types::Report;
 use waits::types::Served;
 use writes::samples::interaction_deadline;
@@ -75,12 +75,12 @@ fn effect(sensor: Sensor, now: Time, t: Timed) -> Served
     ensures { λ r. ⌜ r ≡ C.effect sensor now t ⌝ }
 {
     match t {
-        Timed::Accelerations(x, y, z) => silently(set_input(sensor, x, y, z)),
+        Timed::Accelerations(x, y, z) => without_report(set_input(sensor, x, y, z)),
         Timed::Supply(rail) => set_supply(sensor, rail, now),
         Timed::Due => at_deadline(sensor, now),
-        Timed::Rising(mosi) => silently(rising_at(sensor, mosi, now)),
-        Timed::Falling => silently(falling_at(sensor, now)),
-        Timed::Pins(before, after) => silently(i2c_pins_at(sensor, before, after, now)),
+        Timed::Rising(mosi) => without_report(rising_at(sensor, mosi, now)),
+        Timed::Falling => without_report(falling_at(sensor, now)),
+        Timed::Pins(before, after) => without_report(i2c_pins_at(sensor, before, after, now)),
     }
 }
 

@@ -1,4 +1,4 @@
--- What the table of refusals asks of a call, taken from the call once. Assumes nothing.
+-- What the table of refusals asks of a call, taken from the call once.
 use Prim.Native.Nat.{ℕ}
 use lib.IntN.{ℤ}
 use Rattle.time.specs.declared.Time.{Time}
@@ -14,7 +14,7 @@ use Rattle.calls.specs.declared.types.Axes.the-variants as Axes
 use Rattle.calls.specs.declared.types.Facts.{Facts}
 
 -- a timed call with nothing more to ask of it
-abbrev pub at : Kind → Time → Facts
+abbrev pub at : (kind : Kind) (now : Time) → Facts
 at kind now = record { kind = kind; time = Dated.At now; bytes = Bytes.Nothing; axes = Axes.Unset }
 
 -- a call without a time
@@ -22,15 +22,15 @@ abbrev pub untimed : Facts
 untimed = record { kind = Kind.Untimed; time = Dated.Undated; bytes = Bytes.Nothing; axes = Axes.Unset }
 
 -- a start or a stored-image call: bytes and a time, and none of 01's timed calls
-abbrev pub bringing : Time → ℕ → Facts
+abbrev pub bringing : (now : Time) (n : ℕ) → Facts
 bringing now n = record { kind = Kind.Untimed; time = Dated.At now; bytes = Bytes.Count n; axes = Axes.Unset }
 
 -- a timed call that sets the accelerations
-abbrev pub setting : Time → ℤ → ℤ → ℤ → Facts
+abbrev pub setting : (now : Time) (x y z : ℤ) → Facts
 setting now x y z = record { kind = Kind.Timed; time = Dated.At now; bytes = Bytes.Nothing; axes = Axes.Set x y z }
 
 -- 01: a timed call is accelerations, supply, due moment, SPI edge, I2C pins
-unfoldable pub timed-facts : Time → Timed → Facts
+unfoldable pub timed-facts : (now : Time) → Timed → Facts
 timed-facts now (Timed.Accelerations x y z) = setting now x y z
 timed-facts now (Timed.Supply rail) = at Kind.Timed now
 timed-facts now Timed.Due = at Kind.Due now

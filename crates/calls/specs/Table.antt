@@ -1,10 +1,11 @@
--- 01's table of refusals: which one a call gets, from the last accepted time, next due and the call. Assumes nothing.
+-- 01's table of refusals: which one a call gets, from the last accepted time, next due and the call.
 use Prim.Native.Nat.{ℕ, _^_}
-use mathlib.Core.Bool.{Bool, false, cond, not, _||_}
+use mathlib.Core.Bool.{Bool, false, not, _||_}
 use mathlib.Core.List.{List, [], _∷_}
 use lib.Dec.{leb, eqb}
 use lib.IntN.{ℤ, pos, negℤ}
 use lib.Signed.{ltZ}
+use Rattle.laws.specs.Notation.{if_then_else_}
 use Rattle.time.specs.declared.Time.{Time}
 use Rattle.time.specs.Time.{precedes}
 use Rattle.deadlines.specs.declared.Deadline.{Deadline}
@@ -74,7 +75,7 @@ wrong-length (Bytes.Count n) = not (eqb n 19)
 wrong-length Bytes.Nothing = false
 
 -- 2: an axis is beyond ±1,000,000,000
-unfoldable pub beyond : ℤ → Bool
+unfoldable pub beyond : (axis : ℤ) → Bool
 beyond axis = ltZ (pos 1000000000) axis || ltZ axis (negℤ (pos 1000000000))
 
 unfoldable pub any-beyond : ℤ → ℤ → ℤ → Bool
@@ -85,7 +86,7 @@ out-of-range (Axes.Set x y z) = any-beyond x y z
 out-of-range Axes.Unset = false
 
 -- 3: whole seconds are 2^32 or more
-unfoldable pub late : Time → Bool
+unfoldable pub late : (now : Time) → Bool
 late now = leb (2 ^ 32) (now .0)
 
 unfoldable pub too-late : Dated → Bool
@@ -93,26 +94,26 @@ too-late (Dated.At now) = late now
 too-late Dated.Undated = false
 
 -- 4: earlier than the last accepted time
-unfoldable pub goes-back : Time → Dated → Bool
+unfoldable pub goes-back : (last : Time) → Dated → Bool
 goes-back last (Dated.At now) = precedes now last
 goes-back last Dated.Undated = false
 
 -- 5: a timed call other than the due call, and next due is at or before its time
-unfoldable pub due-by : Deadline → Dated → Bool
+unfoldable pub due-by : (due : Deadline) → Dated → Bool
 due-by due (Dated.At now) = is-by due now
 due-by due Dated.Undated = false
 
-unfoldable pub before-due : Deadline → Kind → Dated → Bool
+unfoldable pub before-due : (due : Deadline) → Kind → (time : Dated) → Bool
 before-due due Kind.Timed time = due-by due time
 before-due due Kind.Due time = false
 before-due due Kind.Untimed time = false
 
 -- 6: a due call whose time is not next due, or nothing is due
-unfoldable pub due-at : Deadline → Dated → Bool
+unfoldable pub due-at : (due : Deadline) → Dated → Bool
 due-at due (Dated.At now) = is-at due now
 due-at due Dated.Undated = false
 
-unfoldable pub beside-due : Deadline → Kind → Dated → Bool
+unfoldable pub beside-due : (due : Deadline) → Kind → (time : Dated) → Bool
 beside-due due Kind.Timed time = false
 beside-due due Kind.Due time = not (due-at due time)
 beside-due due Kind.Untimed time = false
@@ -129,7 +130,7 @@ row n t = record { number = n; test = t }
 
 unfoldable pub first-found : {A : Type 0} → List (Row A) → A → ℕ
 first-found [] a = no-refusal
-first-found (r ∷ rs) a = cond (r .test a) (r .number) (first-found rs a)
+first-found (r ∷ rs) a = if r .test a then r .number else first-found rs a
 
 -- what a call meets: the last accepted time, next due before any sampling, and what is asked of the call itself
 pub record Meets : Type 0 where
@@ -148,7 +149,7 @@ rows =
     ∷ row not-due (λ m. beside-due (m .due) (m .call .kind) (m .call .time))
     ∷ []
 
-unfoldable pub refusal : Time → Deadline → Call → ℕ
+unfoldable pub refusal : (last : Time) (due : Deadline) → Call → ℕ
 refusal last due c = first-found rows (record { last = last; due = due; call = facts c })
 
 -- 01: a start has 1 and 3
@@ -158,9 +159,9 @@ start-rows =
     ∷ row time-limit (λ f. too-late (f .time))
     ∷ []
 
-unfoldable pub start-refusal : Time → ℕ → ℕ
+unfoldable pub start-refusal : (now : Time) (length : ℕ) → ℕ
 start-refusal now length = first-found start-rows (bringing now length)
 
 -- what a call leaves: a refused one what came in
-unfoldable pub unless-refused : {A : Type 0} → ℕ → A → A → A
-unless-refused number before after = cond (eqb number no-refusal) after before
+unfoldable pub unless-refused : {A : Type 0} (number : ℕ) (before after : A) → A
+unless-refused number before after = if eqb number no-refusal then after else before

@@ -1,10 +1,11 @@
--- What the bytes of a command mean (01, "Bench program"). Assumes nothing.
-use mathlib.Core.Bool.{Bool, true, false, cond}
+-- What the bytes of a command mean (01, "Bench program").
+use mathlib.Core.Bool.{Bool, true, false}
 use mathlib.Core.List.{List, [], _∷_}
 use Prim.Native.Nat.{ℕ, _+_, _-_, _*_, _/_, _%_}
 use lib.Dec.{ltb, eqb}
 use lib.IntN.{ℤ, pos, negsuc}
 use lib.ListN.{length, take, drop, getD}
+use Rattle.laws.specs.Notation.{if_then_else_}
 use Rattle.time.specs.declared.Time.{Time}
 use Rattle.i2c.specs.declared.types.Levels.{Levels}
 use Rattle.calls.specs.declared.types.Timed.{Timed}
@@ -17,7 +18,7 @@ use Rattle.commands.specs.declared.Command.the-variants as Command
 -- ---- operands, big-endian; `at` counts from the command's byte
 
 -- the n bytes from `at`
-abbrev pub part : ℕ → ℕ → List ℕ → List ℕ
+abbrev pub part : (at n : ℕ) (l : List ℕ) → List ℕ
 part at n l = take n (drop at l)
 
 abbrev pub big-from : ℕ → List ℕ → ℕ
@@ -29,29 +30,29 @@ abbrev pub big : List ℕ → ℕ
 big l = big-from 0 l
 
 -- the number of the n bytes from `at`
-unfoldable pub number-at : ℕ → ℕ → List ℕ → ℕ
+unfoldable pub number-at : (at n : ℕ) (l : List ℕ) → ℕ
 number-at at n l = big (part at n l)
 
 -- two's complement in 32 bits
 unfoldable pub signed : ℕ → ℤ
-signed x = cond (ltb x 2147483648) (pos x) (negsuc (4294967295 - x))
+signed x = if ltb x 2147483648 then pos x else negsuc (4294967295 - x)
 
-abbrev pub signed-at : ℕ → List ℕ → ℤ
+abbrev pub signed-at : (at : ℕ) (l : List ℕ) → ℤ
 signed-at at l = signed (number-at at 4 l)
 
 -- T: 4 bytes of seconds and 8 of fraction
-unfoldable pub moment-at : ℕ → List ℕ → Time
+unfoldable pub moment-at : (at : ℕ) (l : List ℕ) → Time
 moment-at at l = record { 0 = number-at at 4 l; 1 = number-at (at + 4) 8 l }
 
-abbrev pub byte-at : ℕ → List ℕ → ℕ
+abbrev pub byte-at : (at : ℕ) (l : List ℕ) → ℕ
 byte-at at l = getD l at 0
 
 -- the bit of this weight
-unfoldable pub bit : ℕ → ℕ → Bool
+unfoldable pub bit : (b weight : ℕ) → Bool
 bit b weight = eqb (b / weight % 2) 1
 
 -- the clock and the data as two bits of a byte
-abbrev pub levels : ℕ → ℕ → ℕ → Levels
+abbrev pub levels : (b scl sda : ℕ) → Levels
 levels b scl sda = record { scl = bit b scl; sda = bit b sda }
 
 -- the command of a timed call, T at its byte 1
@@ -60,11 +61,11 @@ timed l t = Command.Host (Call.At (moment-at 1 l) t)
 
 -- the command, where its n bytes are there
 abbrev pub within : ℕ → List ℕ → Command → Command
-within n l c = cond (ltb (length l) n) Command.Bad c
+within n l c = if ltb (length l) n then Command.Bad else c
 
 -- the command for 0 and that for 1; another value is not listed
-abbrev pub either-of : ℕ → Command → Command → Command
-either-of b low high = cond (eqb b 0) low (cond (eqb b 1) high Command.Bad)
+abbrev pub either-of : (b : ℕ) (low high : Command) → Command
+either-of b low high = if eqb b 0 then low else if eqb b 1 then high else Command.Bad
 
 -- ---- the commands
 
@@ -106,7 +107,7 @@ falling l = within 13 l (timed l Timed.Falling)
 
 -- a byte 0..15: bits 3 and 2 the clock and data before, 1 and 0 after
 abbrev pub lines : List ℕ → ℕ → Command
-lines l b = cond (ltb 15 b) Command.Bad (timed l (Timed.Pins (levels b 8 4) (levels b 2 1)))
+lines l b = if ltb 15 b then Command.Bad else timed l (Timed.Pins (levels b 8 4) (levels b 2 1))
 
 -- 09 pins T, a byte 0..15
 unfoldable pub pins : List ℕ → Command
@@ -125,27 +126,27 @@ view l = within 2 l (Command.Host (Call.View (byte-at 1 l)))
 -- 06 to 0b
 unfoldable pub decode-06-to-0b : ℕ → List ℕ → Command
 decode-06-to-0b c l =
-    cond (eqb c 0x06) (select l)
-    (cond (eqb c 0x07) (rising l)
-    (cond (eqb c 0x08) (falling l)
-    (cond (eqb c 0x09) (pins l)
-    (cond (eqb c 0x0a) (stored-image l)
-    (cond (eqb c 0x0b) (view l)
-    Command.Bad)))))
+    if eqb c 0x06 then select l
+    else if eqb c 0x07 then rising l
+    else if eqb c 0x08 then falling l
+    else if eqb c 0x09 then pins l
+    else if eqb c 0x0a then stored-image l
+    else if eqb c 0x0b then view l
+    else Command.Bad
 
 -- 01 to 05; another byte goes to the definition above
 unfoldable pub decode-01-to-05 : ℕ → List ℕ → Command
 decode-01-to-05 c l =
-    cond (eqb c 0x01) (start l)
-    (cond (eqb c 0x02) (accelerations l)
-    (cond (eqb c 0x03) (temperature l)
-    (cond (eqb c 0x04) (supply l)
-    (cond (eqb c 0x05) (due l)
-    (decode-06-to-0b c l)))))
+    if eqb c 0x01 then start l
+    else if eqb c 0x02 then accelerations l
+    else if eqb c 0x03 then temperature l
+    else if eqb c 0x04 then supply l
+    else if eqb c 0x05 then due l
+    else decode-06-to-0b c l
 
 -- the command at the head of the input; none where nothing is left
 unfoldable pub decoded : List ℕ → Command
-decoded l = cond (ltb 0 (length l)) (decode-01-to-05 (byte-at 0 l) l) Command.Bad
+decoded l = if ltb 0 (length l) then decode-01-to-05 (byte-at 0 l) l else Command.Bad
 
 -- how many bytes the command of a timed call is: its byte, T and the operands
 unfoldable pub timed-size : Timed → ℕ

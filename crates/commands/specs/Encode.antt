@@ -1,11 +1,12 @@
--- The bytes that a command is written as (01, "Bench program"), said apart from how `Decode` takes them. Assumes nothing.
+-- The bytes that a command is written as (01, "Bench program"), said apart from how `Decode` takes them.
 use mathlib.Core.Path.{_≡_}
-use mathlib.Core.Bool.{Bool, cond}
+use mathlib.Core.Bool.{Bool}
 use mathlib.Core.List.{List, [], _∷_, _++_}
 use Prim.Native.Nat.{ℕ, zero, suc, _+_, _-_, _/_, _%_, _^_, _<_}
 use lib.IntN.{ℤ, pos, negsuc}
 use lib.ListN.{length}
 use lib.Signed.{mag}
+use Rattle.laws.specs.Notation.{if_then_else_, Image}
 use Rattle.time.specs.declared.Time.{Time}
 use Rattle.i2c.specs.declared.types.Levels.{Levels}
 use Rattle.calls.specs.declared.types.Timed.{Timed}
@@ -36,11 +37,11 @@ abbrev pub signed-bytes : ℤ → List ℕ
 signed-bytes z = bytes 4 (complement z)
 
 -- a bit that is set counts its weight
-abbrev pub weighed : Bool → ℕ → ℕ
-weighed b weight = cond b weight 0
+abbrev pub weighed : (b : Bool) (weight : ℕ) → ℕ
+weighed b weight = if b then weight else 0
 
 -- the byte 0..15 of the lines: bits 3 and 2 the clock and data before, 1 and 0 after
-abbrev pub lines-byte : Levels → Levels → ℕ
+abbrev pub lines-byte : (before after : Levels) → ℕ
 lines-byte before after = weighed (before .scl) 8 + weighed (before .sda) 4 + weighed (after .scl) 2 + weighed (after .sda) 1
 
 -- ---- commands: the byte, then the operands
@@ -63,7 +64,7 @@ call-bytes (Call.View address) = 0x0b ∷ bytes 1 address
 call-bytes (Call.StoredImage t n) = 0x0a ∷ time-bytes t
 
 -- a command, with the 19 bytes of a start; ff is one of the bytes that begin no command
-unfoldable pub encoded : Command → List ℕ → List ℕ
+unfoldable pub encoded : Command → (image : Image) → List ℕ
 encoded (Command.Start t) image = 0x01 ∷ (time-bytes t ++ image)
 encoded (Command.Host c) image = call-bytes c
 encoded Command.Bad image = 0xff ∷ []
@@ -96,7 +97,7 @@ Call-fits (Call.View address) = address < 2 ^ 8
 Call-fits (Call.StoredImage t n) = Time-fits t × (n ≡ 19)
 
 -- a command whose operands fit its fields; a start has 19 bytes
-unfoldable pub Fits : Command → List ℕ → Type 0
+unfoldable pub Fits : Command → (image : Image) → Type 0
 Fits (Command.Start t) image = Time-fits t × (length image ≡ 19)
 Fits (Command.Host c) image = Call-fits c
 Fits Command.Bad image = Unit {0}

@@ -1,2 +1,4 @@
+pub mod Laws
+pub mod More
 pub mod RoundTrip
 pub mod Examples

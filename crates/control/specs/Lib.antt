@@ -1,4 +1,4 @@
 pub mod Waits
 pub mod Writes
 pub mod Automatic
-pub mod Begins
+pub mod Theorems

@@ -25,43 +25,46 @@ pub fn pauses_again(asleep: bool, pause_set: bool) -> bool
     false
 }
 
+// What the sensor is doing: it sleeps, wakes, tests itself, copies its image, writes a cell, has valid samples, raises its
+// interrupt, verifies a criterion.
+pub struct Activity {
+    pub asleep: bool,
+    pub waking: bool,
+    pub testing: bool,
+    pub copying: bool,
+    pub writing: bool,
+    pub acquired: bool,
+    pub interrupt: bool,
+    pub verifying: bool,
+}
+
 // The sensor may pause.
-pub fn may_pause(
-    verify: bool,
-    asleep: bool,
-    waking: bool,
-    testing: bool,
-    copying: bool,
-    writing: bool,
-    acquired: bool,
-    interrupt: bool,
-    verifying: bool,
-) -> bool
-    ensures { λ r. ⌜ r ≡ Automatic.may-pause verify asleep waking testing copying writing acquired interrupt verifying ⌝ }
+pub fn may_pause(verify: bool, does: Activity) -> bool
+    ensures { λ r. ⌜ r ≡ Automatic.may-pause verify does ⌝ }
 {
     if !verify {
         return false;
     }
-    if asleep {
+    if does.asleep {
         return false;
     }
-    if waking {
+    if does.waking {
         return false;
     }
-    if testing {
+    if does.testing {
         return false;
     }
-    if copying {
+    if does.copying {
         return false;
     }
-    if writing {
+    if does.writing {
         return false;
     }
-    if !acquired {
+    if !does.acquired {
         return false;
     }
-    if interrupt {
+    if does.interrupt {
         return false;
     }
-    !verifying
+    !does.verifying
 }

@@ -1,5 +1,5 @@
 // What a write does, and what a write of 0a does to the self test and to sleep.
-pub enum Written {
+pub enum WriteKind {
     Ignored,
     Stored,
     Reset,

@@ -29,13 +29,6 @@ pub fn acquisition_cycles(window: u8) -> u16
     2 * (window as u16)
 }
 
-// Whether these cycles suffice.
-pub fn acquired(cycles: u16, window: u8) -> bool
-    ensures { λ r. ⌜ r ≡ Waits.acquired cycles window ⌝ }
-{
-    acquisition_cycles(window) <= cycles
-}
-
 // The pauses that wake_up_pause chooses from, in milliseconds.
 pub fn pauses() -> [u16; 4]
     ensures { λ r. ⌜ r ≡ Waits.pauses ⌝ }

@@ -3,7 +3,8 @@ ghost use mathlib.Core.Path.{_≡_};
 ghost use Rattle.control.specs.Writes as Writes;
 use crate::types::SelfTest;
 use crate::types::Sleep;
-use crate::types::Written;
+use crate::types::WriteKind;
+use registers::access::Gate;
 use registers::access::ignores;
 use registers::access::stored;
 use registers::fields::CONTROL;
@@ -13,7 +14,6 @@ use registers::fields::MEASUREMENT;
 use registers::fields::OPERATION;
 use registers::fields::RESET_INT;
 use registers::fields::SELF_TEST_0;
-use registers::fields::SHADOW_DIS;
 use registers::fields::SLEEP;
 use registers::fields::SOFT_RESET;
 use registers::fields::UPDATE_IMAGE;
@@ -21,17 +21,17 @@ use registers::fields::WAKE_UP;
 use registers::fields::has;
 
 // A write of 0a that is taken.
-fn written_control(value: u8) -> Written
+fn written_control(value: u8) -> WriteKind
     ensures { λ r. ⌜ r ≡ Writes.written-control value ⌝ }
 {
     if has(value, SOFT_RESET) {
-        return Written::Reset;
+        return WriteKind::Reset;
     }
-    Written::Control
+    WriteKind::Control
 }
 
 // A write of a register that is taken.
-fn written_register(address: u8, value: u8) -> Written
+fn written_register(address: u8, value: u8) -> WriteKind
     ensures { λ r. ⌜ r ≡ Writes.written-register address value ⌝ }
 {
     let i = address as usize;
@@ -39,40 +39,32 @@ fn written_register(address: u8, value: u8) -> Written
         return written_control(value);
     }
     if i == MEASUREMENT {
-        return Written::Measurement;
+        return WriteKind::Measurement;
     }
     if i == OPERATION {
-        return Written::Operation;
+        return WriteKind::Operation;
     }
     if i == LG_DUR {
-        return Written::Durations;
+        return WriteKind::Durations;
     }
     if i == HG_DUR {
-        return Written::Durations;
+        return WriteKind::Durations;
     }
-    Written::Plain
+    WriteKind::Plain
 }
 
-// What a write does; `control` is the byte of 0a, and `running` that a stored write runs.
-pub fn written(
-    address: u8,
-    value: u8,
-    control: u8,
-    quiet: bool,
-    copying: bool,
-    asleep: bool,
-    running: bool,
-) -> Written
-    ensures { λ r. ⌜ r ≡ Writes.written address value control quiet copying asleep running ⌝ }
+// What a write does; `running`: a stored write runs.
+pub fn kind_of_write(address: u8, value: u8, gate: Gate, running: bool) -> WriteKind
+    ensures { λ r. ⌜ r ≡ Writes.kind-of-write address value gate running ⌝ }
 {
-    if ignores(address, value, control, quiet, copying, asleep) {
-        return Written::Ignored;
+    if ignores(address, value, gate) {
+        return WriteKind::Ignored;
     }
     if stored(address) {
         if running {
-            return Written::Ignored;
+            return WriteKind::Ignored;
         }
-        return Written::Stored;
+        return WriteKind::Stored;
     }
     written_register(address, value)
 }
@@ -81,7 +73,7 @@ pub fn written(
 pub fn kept(value: u8) -> u8
     ensures { λ r. ⌜ r ≡ Writes.kept value ⌝ }
 {
-    value & 0x3d
+    value & 0xfd & 0xbf & 0x7f
 }
 
 // A write of 0a resets the interrupts.
@@ -137,11 +129,4 @@ pub fn turns_automatic(old: u8, value: u8) -> bool
         return !is;
     }
     is
-}
-
-// A write of 15 releases the held pairs.
-pub fn releases_pairs(value: u8) -> bool
-    ensures { λ r. ⌜ r ≡ Writes.releases-pairs value ⌝ }
-{
-    has(value, SHADOW_DIS)
 }

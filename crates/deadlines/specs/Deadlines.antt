@@ -1,8 +1,9 @@
--- The sensor's deadlines. Assumes nothing.
-use mathlib.Core.Bool.{Bool, true, false, cond}
+-- The sensor's deadlines.
+use mathlib.Core.Bool.{Bool, true, false}
 use mathlib.Core.List.{List, [], _∷_}
 use mathlib.Core.Option.{Option, none, some}
 use lib.Dec.{leb}
+use Rattle.laws.specs.Notation.{if_then_else_}
 use Rattle.time.specs.declared.Time.{Time}
 use Rattle.time.specs.declared.Duration.{Duration}
 use Rattle.time.specs.Time.{ticks, plus, precedes, same}
@@ -12,7 +13,7 @@ use Rattle.deadlines.specs.declared.Deadlines.{Deadlines}
 
 -- ---- one deadline
 
--- this paper's values: the moment or nothing (01, next due)
+-- the moment or nothing, as 01 compares next due
 unfoldable pub moment : Deadline → Option Time
 moment (At t) = some t
 moment Never = none
@@ -23,12 +24,12 @@ is-set (At t) = true
 is-set Never = false
 
 -- it is at this moment (the Rust's `== Some(now)`)
-unfoldable pub is-at : Deadline → Time → Bool
+unfoldable pub is-at : Deadline → (now : Time) → Bool
 is-at (At t) now = same t now
 is-at Never now = false
 
 -- it is at this moment or before it (01, refusal 5)
-unfoldable pub is-by : Deadline → Time → Bool
+unfoldable pub is-by : Deadline → (now : Time) → Bool
 is-by (At t) now = leb (ticks t) (ticks now)
 is-by Never now = false
 
@@ -36,14 +37,14 @@ is-by Never now = false
 unfoldable pub sooner : Deadline → Deadline → Deadline
 sooner Never other = other
 sooner (At t) Never = At t
-sooner (At t) (At u) = cond (precedes u t) (At u) (At t)
+sooner (At t) (At u) = if precedes u t then At u else At t
 
 -- none where it is at this moment, else itself (the Rust's `at_deadline`)
-unfoldable pub unless-at : Deadline → Time → Deadline
-unless-at d now = cond (is-at d now) Never d
+unfoldable pub unless-at : Deadline → (now : Time) → Deadline
+unless-at d now = if is-at d now then Never else d
 
 -- later by a length, where it is set (the Rust's `map(|t| t.checked_add(duration))`)
-unfoldable pub later : Deadline → Duration → Deadline
+unfoldable pub later : Deadline → (by : Duration) → Deadline
 later (At t) by = At (plus t by)
 later Never by = Never
 
@@ -78,7 +79,7 @@ abbrev pub with-image : Deadlines → Deadline → Deadlines
 with-image s d = record { «serial_ready» = s .«serial_ready»; wake = s .wake; pause = s .pause; quiet = s .quiet; «irq_hold» = s .«irq_hold»; image = d }
 
 -- the list of the Rust's `next_deadline`, with the next sample and the end of a stored write
-abbrev pub waits : Deadlines → Deadline → Deadline → List Deadline
+abbrev pub waits : Deadlines → (sample write : Deadline) → List Deadline
 waits s sample write = s .«serial_ready» ∷ sample ∷ s .wake ∷ s .pause ∷ s .quiet ∷ s .«irq_hold» ∷ write ∷ s .image ∷ []
 
 -- the first of a list, none where none is set (the Rust's `flatten().min()`)
@@ -87,10 +88,10 @@ first [] = Never
 first (d ∷ ds) = sooner d (first ds)
 
 -- the Rust's `next_deadline` while there is supply
-unfoldable pub earliest : Deadlines → Deadline → Deadline → Deadline
+unfoldable pub earliest : Deadlines → (sample write : Deadline) → Deadline
 earliest s sample write = first (waits s sample write)
 
--- 01: a warm return shifts the waits by the length without supply; the wake is not shifted (the Rust's rule)
-abbrev pub shifted : Deadlines → Duration → Deadlines
+-- a warm return shifts the waits by the length without supply; the wake is not shifted (the Rust's rules)
+abbrev pub shifted : Deadlines → (by : Duration) → Deadlines
 shifted s by =
     record { «serial_ready» = later (s .«serial_ready») by; wake = s .wake; pause = later (s .pause) by; quiet = later (s .quiet) by; «irq_hold» = later (s .«irq_hold») by; image = later (s .image) by }

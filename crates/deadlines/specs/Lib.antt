@@ -1,2 +1,2 @@
 pub mod Deadlines
-pub mod Earliest
+pub mod Theorems

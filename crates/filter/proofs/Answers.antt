@@ -1,5 +1,5 @@
 -- A filter answers as 01 says, whatever was done to it before: each push on each of the three axes and each selection, in any order and number.
--- Assumes nothing.
+--
 use mathlib.Core.Path.{_≡_, refl, sym, ap, _∙_}
 use mathlib.Core.Bool.{Bool, true, false, cond}
 use mathlib.Core.List.{List, [], _∷_, _++_}

@@ -1,4 +1,4 @@
--- What a push, a selection and a new filter do to each axis's list of last codes. Assumes nothing.
+-- What a push, a selection and a new filter do to each axis's list of last codes.
 use mathlib.Core.Path.{_≡_, refl, _∙_}
 use mathlib.Core.List.{List, _∷_}
 use Prim.Native.Nat.{ℕ, zero, suc, _+_, _-_, _*_, _%_, _≤_, _<_}

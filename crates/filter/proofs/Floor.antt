@@ -1,4 +1,4 @@
--- The answer of `mean` is the floor of the mean. Assumes nothing.
+-- The answer of `mean` is the floor of the mean.
 use mathlib.Core.Path.{_≡_, ap}
 use mathlib.Core.List.{List}
 use Prim.Native.Nat.{ℕ, zero, suc, _+_, _-_, _*_, _/_, _%_, _<_}

@@ -1,4 +1,4 @@
--- Sums of codes: one more code, straight runs of a list and the window of a ring. Assumes nothing.
+-- Sums of codes: one more code, straight runs of a list and the window of a ring.
 use mathlib.Core.Path.{_≡_, refl, sym, ap, _∙_}
 use mathlib.Core.List.{List, [], _∷_}
 use Prim.Native.Nat.{ℕ, zero, suc, _+_, _-_, _*_, _%_, _^_, _≤_, _<_}

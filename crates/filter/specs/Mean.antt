@@ -1,4 +1,4 @@
--- Lists of codes and the floor of their mean. Assumes nothing.
+-- Lists of codes and the floor of their mean.
 use Prim.Native.Nat.{ℕ, zero, suc, _+_, _-_, _%_}
 use mathlib.Core.List.{List, [], _∷_}
 use lib.ListN.{take, getD}
@@ -11,7 +11,7 @@ tabulate zero f = []
 tabulate (suc n) f = f zero ∷ tabulate n (λ k. f (suc k))
 
 -- a ring of 64 codes from `base` on, newest first, where the newest stands at `at` (the Rust's rule, `(next + 63 - n) & 63`)
-unfoldable pub ring : List ℤ → ℕ → ℕ → List ℤ
+unfoldable pub ring : (history : List ℤ) (base at : ℕ) → List ℤ
 ring history base at = tabulate 64 (λ k. getD history (base + (at + 64 - k) % 64) (pos 0))
 
 -- the sum of codes
@@ -20,5 +20,5 @@ sumZ [] = pos 0
 sumZ (x ∷ xs) = x +ℤ sumZ xs
 
 -- the floor of the mean of the first `window` codes (01, "Filtered sample"); shrZ is the floor by `mean-is-floor` of proofs/Floor
-unfoldable pub mean : ℕ → List ℤ → ℤ
+unfoldable pub mean : (window : ℕ) (codes : List ℤ) → ℤ
 mean window codes = shrZ (sumZ (take window codes)) window

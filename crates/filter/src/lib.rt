@@ -22,14 +22,14 @@ pub struct Pushed {
 }
 
 // A filter without its history, which is lent beside it.
-pub struct Places {
+pub struct RingState {
     next: [u8; 3],
     count: [u8; 3],
     shift: u8,
 }
 
-pub struct Placed {
-    pub places: Places,
+pub struct RingPushed {
+    pub places: RingState,
     pub code: i16,
 }
 
@@ -132,12 +132,12 @@ impl Filter {
     }
 
     // All but the codes.
-    pub fn places(self) -> Places
+    pub fn places(self) -> RingState
         ensures { λ r. ⌜ r ≡ places self ⌝ }
     {
         let next = self.next;
         let count = self.count;
-        Places {
+        RingState {
             next: next,
             count: count,
             shift: self.shift,
@@ -160,7 +160,7 @@ impl Filter {
     }
 }
 
-impl Places {
+impl RingState {
     // The filter of these places and a history.
     pub fn joined(self, history: [i16; 192]) -> Filter
         ensures { λ r. ⌜ r ≡ joined history self ⌝ }
@@ -183,7 +183,7 @@ impl Places {
     }
 
     // A code comes on an axis of the lent history, and is answered by itself or by the mean.
-    pub fn push(self, history: &mut [i16; 192], axis: u8, code: i16) -> Placed
+    pub fn push(self, history: &mut [i16; 192], axis: u8, code: i16) -> RingPushed
         ensures { λ r. ⌜ joined (now (history .exit)) (r .places) ≡ pushed (joined (now (history .entry)) self) axis code ⌝ }
         ensures { λ r. ⌜ r .code ≡ answered (joined (now (history .entry)) self) axis code ⌝ }
     {
@@ -195,13 +195,13 @@ impl Places {
         p.next[a] = ((place + 1) % 64) as u8;
         p.count[a] = count;
         if count < self.window() {
-            return Placed {
+            return RingPushed {
                 places: p,
                 code: code,
             };
         }
         let mean = mean_of(history, a * 64, place, least6(self.shift));
-        Placed {
+        RingPushed {
             places: p,
             code: mean,
         }

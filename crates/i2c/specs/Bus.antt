@@ -1,19 +1,20 @@
--- What UM10204 calls the events on the two lines. Assumes nothing.
-use mathlib.Core.Bool.{Bool, true, false, cond, not, _&&_}
+-- What UM10204 calls the events on the two lines.
+use mathlib.Core.Bool.{Bool, true, false, not, _&&_}
+use Rattle.laws.specs.Notation.{if_then_else_}
 use Rattle.i2c.specs.declared.types.Levels.{Levels}
 use Rattle.i2c.specs.declared.types.Edge.{Edge}
 use Rattle.i2c.specs.declared.types.Edge.the-variants.{Still, Start, Stop, Rise, Fall}
 
 -- the data line changes while the clock is high (UM10204 3.1.4)
-unfoldable pub data-moves : Levels → Levels → Bool
-data-moves before after = before .scl && (after .scl && cond (before .sda) (not (after .sda)) (after .sda))
+unfoldable pub data-moves : (before after : Levels) → Bool
+data-moves before after = before .scl && (after .scl && (if before .sda then not (after .sda) else after .sda))
 
 -- START: the data falls while the clock is high; STOP: it rises (UM10204 3.1.4). A bit is taken at the clock's rise (3.1.3)
-unfoldable pub edge : Levels → Levels → Edge
+unfoldable pub edge : (before after : Levels) → Edge
 edge before after =
-    cond (data-moves before after) (cond (after .sda) Stop Start)
-    (cond (not (before .scl) && after .scl) (Rise (after .sda))
-    (cond (before .scl && not (after .scl)) Fall Still))
+    if data-moves before after then (if after .sda then Stop else Start)
+    else if not (before .scl) && after .scl then Rise (after .sda)
+    else if before .scl && not (after .scl) then Fall else Still
 
 -- START or STOP
 unfoldable pub is-condition : Edge → Bool

@@ -1,7 +1,8 @@
--- The I2C engine: one report of the lines, in the order of UM10204. Assumes nothing.
+-- The I2C engine: one report of the lines, in the order of UM10204.
 use Prim.Native.Nat.{ℕ, _+_, _-_, _%_}
-use mathlib.Core.Bool.{Bool, true, false, cond, not, _&&_, _||_}
+use mathlib.Core.Bool.{Bool, true, false, not, _&&_, _||_}
 use lib.Dec.{leb, ltb, eqb}
+use Rattle.laws.specs.Notation.{if_then_else_, Byte}
 use Rattle.laws.specs.Bytes.{sent-bit, shifted-in}
 use Rattle.i2c.specs.declared.types.Edge.{Edge}
 use Rattle.i2c.specs.declared.types.Receive.{Receive}
@@ -41,8 +42,8 @@ abbrev pub and-do : State → Action → Step
 and-do s a = record { state = s; action = a }
 
 -- ---- START and STOP (UM10204 3.1.4): what was going on is dropped; after START an address is received, unless quiet
-unfoldable pub conditioned : State → Edge → Bool → Step
-conditioned s e quiet = and-do (cond (not quiet && is-start e) (with-phase (aborted s) (P.Receive R.Address)) (aborted s)) A.Drop
+unfoldable pub conditioned : State → Edge → (quiet : Bool) → Step
+conditioned s e quiet = and-do (if not quiet && is-start e then with-phase (aborted s) (P.Receive R.Address) else aborted s) A.Drop
 
 -- ---- quiet: the Rust lets only an acknowledge finish
 unfoldable pub acknowledging : Phase → Bool
@@ -59,7 +60,7 @@ clocks e = is-rise e || is-fall e
 -- ---- byte (UM10204 3.1.5): eight bits, most significant first
 
 -- the edge belongs to a bit within a byte: one of the first seven received, or one of the eight sent
-unfoldable pub within-byte : Phase → ℕ → Edge → Bool
+unfoldable pub within-byte : Phase → (bits : ℕ) → Edge → Bool
 within-byte P.Idle bits e = false
 within-byte (P.Receive k) bits e = is-rise e && ltb bits 7
 within-byte (P.Acknowledge f n) bits e = false
@@ -71,24 +72,24 @@ abbrev pub bit-received : State → Edge → Step
 bit-received s e = and-do (record { phase = s .phase; pointer = s .pointer; bits = s .bits + 1; shift = shifted-in (s .shift) (data-at e); low = s .low }) A.Nothing
 
 -- the register pointer after bit n was taken: past the last bit it moves on modulo 128
-unfoldable pub pointer-after : ℕ → ℕ → ℕ
-pointer-after pointer n = cond (eqb n 7) ((pointer + 1) % 128) pointer
+unfoldable pub pointer-after : (pointer n : ℕ) → ℕ
+pointer-after pointer n = if eqb n 7 then (pointer + 1) % 128 else pointer
 
 -- the master takes bit n: at the first the read is noted
 unfoldable pub bit-taken : State → ℕ → Step
 bit-taken s n =
     and-do (with-pointer s (P.Read (n + 1)) (pointer-after (s .pointer) n))
-    (cond (eqb n 0) (A.Acknowledge (s .pointer)) A.Nothing)
+    (if eqb n 0 then A.ReadBegan (s .pointer) else A.Nothing)
 
 -- the pin shows bit n: held low for a 0, free for a 1
-abbrev pub bit-shown : State → ℕ → ℕ → Step
+abbrev pub bit-shown : State → (n : ℕ) (sent : Byte) → Step
 bit-shown s n sent = and-do (with-low s (s .phase) (not (sent-bit sent n))) A.Nothing
 
-unfoldable pub byte-step : Phase → State → Edge → ℕ → Step
+unfoldable pub byte-step : Phase → State → Edge → (sent : Byte) → Step
 byte-step P.Idle s e sent = and-do s A.Nothing
 byte-step (P.Receive k) s e sent = bit-received s e
 byte-step (P.Acknowledge f n) s e sent = and-do s A.Nothing
-byte-step (P.Read n) s e sent = cond (is-rise e) (bit-taken s n) (bit-shown s n sent)
+byte-step (P.Read n) s e sent = if is-rise e then bit-taken s n else bit-shown s n sent
 byte-step (P.MasterAcknowledge a) s e sent = and-do s A.Nothing
 
 -- ---- acknowledge (UM10204 3.1.6): the ninth clock
@@ -111,9 +112,9 @@ followed s F.Idle = and-do (with-low s P.Idle false) A.Nothing
 -- the sensor acknowledges: low from the eighth fall to the ninth
 unfoldable pub acknowledge-step : State → Following → ℕ → Edge → Step
 acknowledge-step s f n e =
-    cond (is-rise e) (and-do (with-phase s (P.Acknowledge f 2)) A.Nothing)
-    (cond (eqb n 0) (and-do (with-low s (P.Acknowledge f 1) true) A.Nothing)
-    (cond (eqb n 2) (followed s f) (and-do s A.Nothing)))
+    if is-rise e then and-do (with-phase s (P.Acknowledge f 2)) A.Nothing
+    else if eqb n 0 then and-do (with-low s (P.Acknowledge f 1) true) A.Nothing
+    else if eqb n 2 then followed s f else and-do s A.Nothing
 
 -- the master's acknowledge is over: the next register's byte, or the pin is free until START
 unfoldable pub answered : State → Answer → Step
@@ -122,13 +123,13 @@ answered s M.Acknowledge = and-do s (A.Launch (s .pointer))
 answered s M.NotAcknowledge = and-do (aborted s) A.Nothing
 
 -- the master acknowledges with a low data line at the ninth rise
-unfoldable pub answer : Bool → Answer
-answer sda = cond sda M.NotAcknowledge M.Acknowledge
+unfoldable pub answer : (sda : Bool) → Answer
+answer sda = if sda then M.NotAcknowledge else M.Acknowledge
 
 unfoldable pub answer-step : State → Answer → Edge → Step
 answer-step s a e =
-    cond (is-rise e) (and-do (with-phase s (P.MasterAcknowledge (answer (data-at e)))) A.Nothing)
-    (answered s a)
+    if is-rise e then and-do (with-phase s (P.MasterAcknowledge (answer (data-at e)))) A.Nothing
+    else answered s a
 
 unfoldable pub ninth-step : Phase → State → Edge → Step
 ninth-step P.Idle s e = and-do s A.Nothing
@@ -141,19 +142,19 @@ ninth-step (P.MasterAcknowledge a) s e = answer-step s a e
 abbrev pub acknowledging-with : State → Following → State
 acknowledging-with s f = with-phase (aborted s) (P.Acknowledge f 0)
 
-unfoldable pub addressed : State → ℕ → Step
+unfoldable pub addressed : State → (byte : Byte) → Step
 addressed s byte =
-    and-do (cond (eqb byte 0x70) (acknowledging-with s F.Control) (cond (eqb byte 0x71) (acknowledging-with s F.Read) (aborted s))) A.Nothing
+    and-do (if eqb byte 0x70 then acknowledging-with s F.Control else if eqb byte 0x71 then acknowledging-with s F.Read else aborted s) A.Nothing
 
 -- ---- data: a register byte sets the pointer, a value byte is written there
-abbrev pub pointed : State → ℕ → Step
+abbrev pub pointed : State → (byte : Byte) → Step
 pointed s byte = and-do (with-pointer (aborted s) (P.Acknowledge F.Data 0) (byte % 128)) A.Nothing
 
-abbrev pub valued : State → ℕ → Step
+abbrev pub valued : State → (byte : Byte) → Step
 valued s byte = and-do (aborted s) (A.Write (s .pointer) byte)
 
 -- the eighth bit completes a byte
-unfoldable pub received : Receive → State → ℕ → Step
+unfoldable pub received : Receive → State → (byte : Byte) → Step
 received R.Address s byte = addressed s byte
 received R.Control s byte = pointed s byte
 received R.Data s byte = valued s byte
@@ -173,31 +174,31 @@ completed (P.Read n) s e = and-do s A.Nothing
 completed (P.MasterAcknowledge a) s e = and-do s A.Nothing
 
 -- ---- one report: the first that applies
-unfoldable pub step : State → Edge → Bool → ℕ → Step
+unfoldable pub step : State → Edge → (quiet : Bool) (sent : Byte) → Step
 step s e quiet sent =
-    cond (is-condition e) (conditioned s e quiet)
-    (cond (quiet && not (acknowledging (s .phase))) (and-do (aborted s) A.Nothing)
-    (cond (within-byte (s .phase) (s .bits) e) (byte-step (s .phase) s e sent)
-    (cond (at-ninth (s .phase) e) (ninth-step (s .phase) s e)
-    (cond (completes (s .phase) e) (completed (s .phase) s e)
-    (and-do s A.Nothing)))))
+    if is-condition e then conditioned s e quiet
+    else if quiet && not (acknowledging (s .phase)) then and-do (aborted s) A.Nothing
+    else if within-byte (s .phase) (s .bits) e then byte-step (s .phase) s e sent
+    else if at-ninth (s .phase) e then ninth-step (s .phase) s e
+    else if completes (s .phase) e then completed (s .phase) s e
+    else and-do s A.Nothing
 
 -- a register was written: its acknowledge begins, and the next pair follows, or nothing while quiet
-abbrev pub written : State → Bool → State
-written s quiet = with-phase s (P.Acknowledge (cond quiet F.Idle F.Control) 0)
+abbrev pub written : State → (quiet : Bool) → State
+written s quiet = with-phase s (P.Acknowledge (if quiet then F.Idle else F.Control) 0)
 
 -- a byte to send was fetched: its first bit is shown
-abbrev pub launched : State → ℕ → State
+abbrev pub launched : State → (sent : Byte) → State
 launched s sent = with-low s (P.Read 0) (not (sent-bit sent 0))
 
 -- ---- which edges use converted values (a sample at the same moment comes first): the last rise of a value byte and the
 -- first of a byte being sent, and the fall at which a byte is fetched
-unfoldable pub uses-as : Receive → ℕ → Bool
+unfoldable pub uses-as : Receive → (bits : ℕ) → Bool
 uses-as R.Address bits = false
 uses-as R.Control bits = false
 uses-as R.Data bits = leb 7 bits
 
-unfoldable pub uses-at-rise : Phase → ℕ → Bool
+unfoldable pub uses-at-rise : Phase → (bits : ℕ) → Bool
 uses-at-rise P.Idle bits = false
 uses-at-rise (P.Receive k) bits = uses-as k bits
 uses-at-rise (P.Acknowledge f n) bits = false
@@ -223,4 +224,4 @@ uses-at-fall (P.Read n) = false
 uses-at-fall (P.MasterAcknowledge a) = goes-on a
 
 unfoldable pub consumes-conversion : State → Edge → Bool
-consumes-conversion s e = cond (is-rise e) (uses-at-rise (s .phase) (s .bits)) (is-fall e && uses-at-fall (s .phase))
+consumes-conversion s e = if is-rise e then uses-at-rise (s .phase) (s .bits) else is-fall e && uses-at-fall (s .phase)

@@ -1,3 +1,3 @@
 pub mod Bus
 pub mod Engine
-pub mod Frames
+pub mod Theorems

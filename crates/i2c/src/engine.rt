@@ -274,7 +274,7 @@ impl State {
         let pointer = self.pointer;
         let t = self.with_pointer(Phase::Read(n + 1), pointer_after(pointer, n));
         if n == 0 {
-            return t.and_do(Action::Acknowledge(pointer));
+            return t.and_do(Action::ReadBegan(pointer));
         }
         t.and_do(Action::Nothing)
     }

@@ -61,7 +61,7 @@ pub enum Action {
     Drop,
     Write(u8, u8),
     Launch(u8),
-    Acknowledge(u8),
+    ReadBegan(u8),
 }
 
 pub struct Step {

@@ -1,4 +1,4 @@
--- The magnitude of a difference of two codes, and a code read from an array. Assumes nothing.
+-- The magnitude of a difference of two codes, and a code read from an array.
 use mathlib.Core.Path.{_≡_, refl}
 use mathlib.Core.Bool.{true}
 use Prim.Native.Nat.{zero, suc, _+_, _^_, _≤_, _<_}

@@ -1,5 +1,4 @@
 pub mod Criteria
 pub mod State
 pub mod Pin
-pub mod Fields
-pub mod History
+pub mod Theorems

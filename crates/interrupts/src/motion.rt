@@ -39,7 +39,7 @@ fn moves(history: [i16; 9], cursor: u8, codes: [i16; 3], threshold: u8) -> bool
     moved(codes[2], history[p + 2], threshold)
 }
 
-// So many in a row have moved, and enable_adv_INT is set.
+// Enough observations in a row have moved, and enable_adv_INT is set.
 fn qualifies(set: u8, need: u8, registers: [u8; 62]) -> bool
     ensures { λ r. ⌜ r ≡ qualifies set need registers ⌝ }
 {

@@ -1,4 +1,4 @@
--- The two sides of a conjunction that holds, and of a disjunction that does not. Assumes nothing.
+-- The two sides of a conjunction that holds, and of a disjunction that does not.
 use mathlib.Core.Path.{_≡_, refl}
 use mathlib.Core.Bool.{Bool, true, false, _&&_, _||_}
 use Prim.Native.Nat.{ℕ}

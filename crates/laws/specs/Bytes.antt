@@ -1,4 +1,4 @@
--- Bytes as they go over a serial line: most significant bit first. Assumes nothing.
+-- Bytes as they go over a serial line: most significant bit first.
 use Prim.Native.Nat.{ℕ, zero, suc, _+_, _-_, _*_, _/_, _%_, _^_, _<_}
 use native.Mathlib.Nat.{mod-lt}
 use native.Mathlib.Omega.{arith}

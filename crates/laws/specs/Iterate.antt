@@ -1,4 +1,4 @@
--- A step taken a number of times, and that it may be split anywhere. Assumes nothing.
+-- A step taken a number of times, and that it may be split anywhere.
 use mathlib.Core.Path.{_≡_}
 use Prim.Native.Nat.{ℕ, zero, suc, _+_}
 use native.Mathlib.Nat.{add-zero, add-suc}

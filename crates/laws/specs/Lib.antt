@@ -5,3 +5,4 @@ pub mod Bools
 pub mod Bytes
 pub mod Iterate
 pub mod Rows
+pub mod Notation

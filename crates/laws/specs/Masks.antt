@@ -1,4 +1,4 @@
--- Masks and shifts, as quotients and remainders. Assumes nothing.
+-- Masks and shifts, as quotients and remainders.
 use mathlib.Core.Path.{_≡_}
 use mathlib.Core.Bool.{not}
 use Prim.Native.Nat.{ℕ, zero, suc, _+_, _-_, _*_, _/_, _%_, _^_, _<_}

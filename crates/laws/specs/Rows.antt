@@ -1,4 +1,4 @@
--- A table of marked rows, and the computed check of one. Assumes nothing.
+-- A table of marked rows, and the computed check of one.
 use Prim.Native.Nat.{ℕ}
 use mathlib.Core.Bool.{Bool, true, false, _&&_}
 use mathlib.Core.List.{List, [], _∷_}

@@ -1,4 +1,4 @@
--- How far a signed number reaches, and that a number which a width holds is read back from its bits. Assumes nothing.
+-- How far a signed number reaches, and that a number which a width holds is read back from its bits.
 use mathlib.Core.Path.{_≡_}
 use mathlib.Core.Bool.{Bool, true, false, cond}
 use Prim.Native.Nat.{ℕ, zero, suc, _+_, _-_, _*_, _/_, _^_, _≤_, _<_}

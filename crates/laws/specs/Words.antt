@@ -1,5 +1,5 @@
 -- Numbers of two digits, h * b + l, at any base b: their order, their sum and their difference, digit by digit.
--- The base is a variable so that `omega` meets no number of 128 bits, at which it stops. Assumes nothing.
+-- The base is a variable so that `omega` meets no number of 128 bits, at which it stops.
 use mathlib.Core.Path.{_≡_, refl, sym, ap, _∙_}
 use Prim.Native.Nat.{ℕ, _+_, _-_, _*_, _/_, _%_, _≤_, _<_, min}
 use native.Mathlib.Nat.{add-mul, suc-mul, zero-mul, mul-le-mul-right}

@@ -1,4 +1,4 @@
--- Signed numbers read from bits and turned into bits. Assumes nothing.
+-- Signed numbers read from bits and turned into bits.
 use mathlib.Core.Path.{_≡_, refl, ap}
 use mathlib.Core.Bool.{false}
 use Prim.Native.Nat.{ℕ, zero, suc, _+_, _-_, _^_, _<_}

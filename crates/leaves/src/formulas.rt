@@ -7,6 +7,7 @@ use crate::record::signed64;
 use crate::record::truth;
 use crate::record::truths;
 use nv::WriteCycle;
+use registers::access::Gate;
 use registers::access::begins;
 use registers::access::ignores;
 use registers::access::stored;
@@ -94,23 +95,26 @@ fn warm(r: Record) -> Answer {
 }
 
 // A write takes effect.
-fn taken(r: Record, quiet: bool, copying: bool, asleep: bool, starts: bool) -> bool {
+fn taken(r: Record, gate: Gate, starts: bool) -> bool {
     if stored(r.a) {
         return starts;
     }
-    !ignores(r.a, r.b, r.c, quiet, copying, asleep)
+    !ignores(r.a, r.b, gate)
 }
 
 // A write of b to a and a read of a, with 0a holding c. The bits of x: quiet, copying, asleep, a stored write runs.
 fn access(r: Record) -> Answer {
     let flags = (r.x % 16) as u8;
-    let quiet = has(flags, 0);
-    let copying = has(flags, 1);
-    let asleep = has(flags, 2);
-    let starts = begins(r.a, r.b, r.c, quiet, copying, asleep, has(flags, 3));
+    let gate = Gate {
+        control: r.c,
+        quiet: has(flags, 0),
+        copying: has(flags, 1),
+        asleep: has(flags, 2),
+    };
+    let starts = begins(r.a, r.b, gate, has(flags, 3));
     Answer(
-        truth(taken(r, quiet, copying, asleep, starts)),
-        truths(starts, withheld(r.a, r.c, quiet, copying, asleep)),
+        truth(taken(r, gate, starts)),
+        truths(starts, withheld(r.a, gate)),
     )
 }
 

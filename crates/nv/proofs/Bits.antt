@@ -1,4 +1,4 @@
--- What a stored write does to each bit of its cell. Assumes nothing.
+-- What a stored write does to each bit of its cell.
 use mathlib.Core.Path.{_≡_, refl, sym, ap, _∙_}
 use mathlib.Core.Bool.{Bool, true, false, not}
 use Prim.Native.Nat.{ℕ, zero, suc, _+_, _-_, _*_, _/_, _%_, _^_, _≤_, _<_}
@@ -10,7 +10,7 @@ use lib.Bits.{bitAnd, and-shr, and-mod, and-le-l}
 use borrow.Author.Tests.{ltb-true, ltb-false, lt-ltb, eqb-true, eq-eqb, ne-eqb, le-leb, leb-true}
 use Rattle.laws.specs.Bytes.{bit, bit-value}
 use Rattle.nv.specs.Cell.{write-length, erase-length, threshold, crossing, has-crossed, bits-where, crossed, program-cell, byte}
-use Rattle.nv.specs.Laws.{start-is-old, programming}
+use Rattle.nv.specs.Theorems.Laws.{start-is-old, programming}
 use Rattle.nv.proofs.Masks.{bit-value-lt, bits-lt}
 
 -- the binary digit of a number at place k

@@ -1,4 +1,4 @@
--- Products that fit, and the mask of crossed bits put together bit by bit. Assumes nothing.
+-- Products that fit, and the mask of crossed bits put together bit by bit.
 use mathlib.Core.Path.{_≡_, subst⁻¹, _∙_}
 use mathlib.Core.Bool.{Bool, true, false}
 use Prim.Native.Nat.{ℕ, zero, suc, _+_, _*_, _%_, _^_, _≤_, _<_}

@@ -1,3 +1,3 @@
 pub mod Cell
 pub mod Cycle
-pub mod Laws
+pub mod Theorems

@@ -6,8 +6,8 @@ use crate::sensor::start;
 use i2c::types::Action;
 use i2c::types::Levels;
 use registers::fields::has;
-use spi::types::Acknowledged;
 use spi::types::Clocked;
+use spi::types::FirstBit;
 use spi::types::Sent;
 use spi::types::Shift;
 use spi::types::Write;
@@ -63,7 +63,7 @@ impl Sensor {
             Action::Drop => self.dropped(),
             Action::Write(a, v) => self.i2c_written(a, v),
             Action::Launch(a) => self.launched(a),
-            Action::Acknowledge(a) => self.noted(a),
+            Action::ReadBegan(a) => self.noted(a),
         }
     }
 
@@ -118,10 +118,10 @@ impl Sensor {
 
     fn acknowledged(self) -> Sensor {
         let f = self.frame;
-        let a = f.acknowledges();
+        let a = f.first_bit();
         match a {
-            Acknowledged::Nothing => self,
-            Acknowledged::Register(address) => self.noted(address),
+            FirstBit::Nothing => self,
+            FirstBit::Register(address) => self.noted(address),
         }
     }
 

@@ -1,5 +1,6 @@
 // A sensor that is all registers: they are read and written by the serial pins at one moment, and nothing samples.
 use i2c::types::State;
+use registers::access::Gate;
 use registers::access::ignores;
 use registers::access::stored;
 use registers::access::withheld;
@@ -111,9 +112,19 @@ impl Sensor {
         has(self.registers[0x15], SPI4)
     }
 
+    // What a read or a write of a register meets; no image is copied, and the sensor does not sleep.
+    fn gate(self) -> Gate {
+        Gate {
+            control: self.registers[0x0a],
+            quiet: self.quiet,
+            copying: false,
+            asleep: false,
+        }
+    }
+
     // The byte of a register, or none where a read is withheld.
     pub(crate) fn fetched(self, address: u8) -> Sent {
-        if withheld(address, self.registers[0x0a], self.quiet, false, false) {
+        if withheld(address, self.gate()) {
             return Sent::Nothing;
         }
         if 62 <= address {
@@ -170,14 +181,7 @@ impl Sensor {
 
     // A write to a register.
     pub(crate) fn written(self, address: u8, value: u8) -> Sensor {
-        if ignores(
-            address,
-            value,
-            self.registers[0x0a],
-            self.quiet,
-            false,
-            false,
-        ) {
+        if ignores(address, value, self.gate()) {
             return self;
         }
         if stored(address) {

@@ -1,4 +1,4 @@
--- Sensors that answer alike print the same text. Assumes nothing.
+-- Sensors that answer alike print the same text.
 use Prim.Native.Nat.{ℕ, zero, suc}
 use mathlib.Core.Path.{_≡_, refl, ap}
 use mathlib.Core.Bool.{Bool, true, false, cond}
@@ -19,7 +19,8 @@ use Rattle.commands.specs.declared.Command.{Command}
 use Rattle.commands.specs.declared.Command.the-variants as Command
 use Rattle.commands.specs.Decode.{decoded, image}
 use Rattle.bench.specs.Line as L
-use Rattle.bench.specs.Run.{Bench, bench, turn, iter, whole}
+use Rattle.laws.specs.Iterate.{iterate}
+use Rattle.bench.specs.Run.{Bench, bench, turn, whole}
 use Rattle.printed.specs.Printed.{Alike, Printed}
 
 -- ---- what a line shows of a sensor
@@ -125,10 +126,10 @@ module _ (trace : Bool) where
   turn-beside b d h =
       rw (h .left, h .text, h .stop) (turned (b .sensor) (d .sensor) (d .left) (d .text) (d .stop) (ltb 0 (length (d .left))) refl (h .sensors))
 
-  iter-beside : (n : ℕ) (b d : Bench) → Beside b d → Beside (iter (turn trace) n b) (iter (turn trace) n d)
-  unfolding iter
+  iter-beside : (n : ℕ) (b d : Bench) → Beside b d → Beside (iterate n (turn trace) b) (iterate n (turn trace) d)
+  unfolding iterate
   iter-beside zero b d h = h
-  iter-beside (suc n) b d h = turn-beside (iter (turn trace) n b) (iter (turn trace) n d) (iter-beside n b d h)
+  iter-beside (suc n) b d h = turn-beside (iterate n (turn trace) b) (iterate n (turn trace) d) (iter-beside n b d h)
 
 alike-prints : (s t : Bma150) → Alike s t → (trace : Bool) (input : List ℕ) → whole trace s input .text ≡ whole trace t input .text
 unfolding whole

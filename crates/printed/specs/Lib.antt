@@ -1,3 +1,3 @@
 pub mod Lines
 pub mod Printed
-pub mod Example
+pub mod Theorems

@@ -1,9 +1,10 @@
--- The bench program's line of a command is a function of its call's answer in the sense of demand 3. Assumes nothing.
-use mathlib.Core.Path.{_≡_, refl}
+-- The bench program's line of a command is a function of its call's answer in the sense of demand 3.
+use mathlib.Core.Path.{_≡_}
 use mathlib.Core.Bool.{Bool}
 use mathlib.Core.List.{List, [], _∷_, _++_}
 use mathlib.Core.Option.{Option, none, some}
 use Prim.Native.Nat.{ℕ}
+use Rattle.laws.specs.Notation.{Image}
 use Rattle.deadlines.specs.Deadlines.{moment}
 use Rattle.calls.specs.declared.types.Call.{Call}
 use Rattle.bma150.specs.declared.host.Bma150.{Bma150}
@@ -26,17 +27,10 @@ abbrev pins-of : Answer → List ℕ
 pins-of a = space ∷ bit (a .interrupt) ∷ space ∷ drive-letter (a .output) ∷ space ∷ drive-letter (a .data-output) ∷ []
 
 -- the line of an answer
-unfoldable pub text-of : Bool → ℕ → Answer → List ℕ
+unfoldable pub text-of : (trace : Bool) (b : ℕ) → Answer → List ℕ
 text-of trace b a = hex b ++ (space ∷ []) ++ word (a .number) ++ pins-of a ++ L.added-text (a .adds) ++ due-text trace (moment (a .next-due)) ++ (line-feed ∷ [])
 
 -- the command leaves the call's sensor, and its line is that of the call's answer
-abbrev pub Prints : Bool → ℕ → Bma150 → Command → List ℕ → Option Call → Type 0
+abbrev pub Prints : (trace : Bool) (b : ℕ) → Bma150 → Command → (image : Image) → Option Call → Type 0
 Prints trace b s c image none = Unit {0}
 Prints trace b s c image (some call) = (L.step s c image ≡ C.step s call) × (L.said trace b s c image ≡ text-of trace b (answer s call))
-
-module _ (trace : Bool) (b : ℕ) (s : Bma150) where
-  pub printed : (c : Command) (image : List ℕ) → Prints trace b s c image (call-of c)
-  unfolding call-of text-of L.commanded L.line L.pins
-  printed (Command.Start t) image = tt
-  printed (Command.Host c) image = (refl, refl)
-  printed Command.Bad image = tt

@@ -1,4 +1,4 @@
--- What demand 3 says of the bench program's text. Assumes nothing.
+-- What demand 3 says of the bench program's text.
 use Prim.Native.Nat.{ℕ}
 use mathlib.Core.Path.{_≡_}
 use mathlib.Core.Bool.{Bool}

@@ -1,3 +1,2 @@
 pub mod Reads
-pub mod Pairs
-pub mod Until
+pub mod Theorems

@@ -189,8 +189,8 @@ impl Reads {
     }
 
     // The first bit of the byte `sent` was taken.
-    pub fn acknowledge(self, address: u8, sent: u8) -> Reads
-        ensures { λ r. ⌜ r ≡ R.acknowledged self address sent ⌝ }
+    pub fn read_began(self, address: u8, sent: u8) -> Reads
+        ensures { λ r. ⌜ r ≡ R.read-began self address sent ⌝ }
     {
         if !is_shadowed(address, self.tx_shadow) {
             return self;

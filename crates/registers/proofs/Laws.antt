@@ -1,4 +1,4 @@
--- The lowest ten bits of a code, how far each step of the scaling reaches, and the code of a large acceleration. Assumes nothing.
+-- The lowest ten bits of a code, how far each step of the scaling reaches, and the code of a large acceleration.
 use mathlib.Core.Path.{_≡_, refl, ap}
 use mathlib.Core.Bool.{Bool, true, false, cond}
 use Prim.Native.Nat.{ℕ, zero, suc, _+_, _-_, _*_, _/_, _%_, _^_, _≤_, _<_}

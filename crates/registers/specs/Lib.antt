@@ -1,4 +1,4 @@
 pub mod Map
 pub mod Access
 pub mod Codes
-pub mod Split
+pub mod Theorems

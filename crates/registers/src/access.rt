@@ -1,8 +1,16 @@
-// Which writes are ignored, which begin a stored write, and which reads are withheld. `control` is the byte of 0a.
+// Which writes are ignored, which begin a stored write, and which reads are withheld.
 ghost use mathlib.Core.Path.{_≡_};
 ghost use Rattle.registers.specs.Access.{unwritable, working, stored, image-blocks, sleep-blocks, locked, ignores, begins, unreadable, withheld};
 use crate::fields::EE_W;
 use crate::fields::has;
+
+// What a read or a write meets: the byte of 0a, whether the sensor is quiet, an image copy runs, the sensor sleeps.
+pub struct Gate {
+    pub control: u8,
+    pub quiet: bool,
+    pub copying: bool,
+    pub asleep: bool,
+}
 
 // There is no register to write.
 fn unwritable(address: u8) -> bool
@@ -71,42 +79,27 @@ fn locked(address: u8, control: u8) -> bool
 }
 
 // A write is ignored.
-pub fn ignores(
-    address: u8,
-    value: u8,
-    control: u8,
-    quiet: bool,
-    copying: bool,
-    asleep: bool,
-) -> bool
-    ensures { λ r. ⌜ r ≡ ignores address value control quiet copying asleep ⌝ }
+pub fn ignores(address: u8, value: u8, gate: Gate) -> bool
+    ensures { λ r. ⌜ r ≡ ignores address value gate ⌝ }
 {
     if unwritable(address) {
         return true;
     }
-    if quiet {
+    if gate.quiet {
         return true;
     }
-    if image_blocks(copying, address) {
+    if image_blocks(gate.copying, address) {
         return true;
     }
-    if sleep_blocks(asleep, address, value) {
+    if sleep_blocks(gate.asleep, address, value) {
         return true;
     }
-    locked(address, control)
+    locked(address, gate.control)
 }
 
 // A write begins a stored write.
-pub fn begins(
-    address: u8,
-    value: u8,
-    control: u8,
-    quiet: bool,
-    copying: bool,
-    asleep: bool,
-    running: bool,
-) -> bool
-    ensures { λ r. ⌜ r ≡ begins address value control quiet copying asleep running ⌝ }
+pub fn begins(address: u8, value: u8, gate: Gate, running: bool) -> bool
+    ensures { λ r. ⌜ r ≡ begins address value gate running ⌝ }
 {
     if !stored(address) {
         return false;
@@ -114,24 +107,24 @@ pub fn begins(
     if running {
         return false;
     }
-    !ignores(address, value, control, quiet, copying, asleep)
+    !ignores(address, value, gate)
 }
 
 // A read is withheld.
-pub fn withheld(address: u8, control: u8, quiet: bool, copying: bool, asleep: bool) -> bool
-    ensures { λ r. ⌜ r ≡ withheld address control quiet copying asleep ⌝ }
+pub fn withheld(address: u8, gate: Gate) -> bool
+    ensures { λ r. ⌜ r ≡ withheld address gate ⌝ }
 {
     if 0x23 <= address {
         return true;
     }
-    if asleep {
+    if gate.asleep {
         return true;
     }
-    if quiet {
+    if gate.quiet {
         return true;
     }
-    if image_blocks(copying, address) {
+    if image_blocks(gate.copying, address) {
         return true;
     }
-    locked(address, control)
+    locked(address, gate.control)
 }

@@ -45,7 +45,7 @@ fn divisor(range: u8) -> i64
     }
 }
 
-// A quotient held to the ten bits of a code.
+// A quotient clamped to the ten bits of a code.
 fn hold_code(z: i64) -> i16
     ensures { λ r. ⌜ r ≡ held (negsuc 511) (pos 511) z ⌝ }
 {
@@ -72,7 +72,7 @@ pub fn code(acceleration: i64, offset: u16, range: u8) -> i16
     hold_code(scaled / divisor(range))
 }
 
-// A quotient held to a byte.
+// A quotient clamped to a byte.
 fn hold_byte(z: i64) -> u8
     ensures { λ r. ⌜ r ≡ natAbs (held (pos 0) (pos 255) z) ⌝ }
 {

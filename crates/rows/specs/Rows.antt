@@ -1,16 +1,18 @@
--- The marked rows of 01: each value computed from the definition that the contracts cite, beside the number that 01 prints. Assumes nothing.
+-- The marked rows of 01: each value computed from the definition that the contracts cite, beside the number that 01 prints.
 use Prim.Native.Nat.{ℕ, _^_}
 use mathlib.Core.Path.{_≡_, refl}
 use mathlib.Core.Bool.{true, false}
 use mathlib.Core.List.{List, [], _∷_}
 use lib.ListN.{getD}
 use lib.IntN.{ℤ, pos, negsuc}
+use Rattle.laws.specs.Notation.{Address}
 use Rattle.laws.specs.Rows.{Row, answer, all}
 use Rattle.time.specs.Time.{ticks, time}
 use Rattle.time.specs.Clock.{edge}
 use Rattle.filter.specs.Mean.{tabulate, ring, sumZ, mean}
 use Rattle.filter.specs.Filter.{pushed, answered}
 use Rattle.filter.specs.Operations.{push, select, after}
+use Rattle.registers.specs.declared.access.Gate.{Gate}
 use Rattle.registers.specs.Access.{unwritable, working, stored, image-blocks, sleep-blocks, locked, ignores, begins}
 use Rattle.registers.specs.Codes.{held, range-g, code}
 use Rattle.interrupts.specs.Criteria.{sets, clears, raised, observe}
@@ -42,7 +44,7 @@ due-at (At t) = pos (ticks t)
 due-at Never = negsuc 0
 
 -- M11: off after a supply call
-abbrev off-at : ℕ → ℤ
+abbrev off-at : (rail : ℕ) → ℤ
 off-at rail = answer (is-off (Supply.set-supply new rail (time 0) .sensor))
 
 -- M12: the refusal of accelerations with this x, nothing due
@@ -62,11 +64,14 @@ abbrev sets-high : ℤ → ℤ
 sets-high c = answer (getD (axis (new .interrupts) 0 c (new .registers) .«high_g» .axes) 0 false)
 
 -- M9, M10: awake, nothing running, bit 4 of 0a set
-abbrev ignored : ℕ → ℤ
-ignored address = answer (ignores address 0 0x10 false false false)
+abbrev awake : Gate
+awake = record { control = 0x10; quiet = false; copying = false; asleep = false }
 
-abbrev starts : ℕ → ℤ
-starts address = answer (begins address 0 0x10 false false false false)
+abbrev ignored : (address : Address) → ℤ
+ignored address = answer (ignores address 0 awake)
+
+abbrev starts : (address : Address) → ℤ
+starts address = answer (begins address 0 awake false)
 
 abbrev pub rows : List Row
 rows =
@@ -90,5 +95,5 @@ rows =
     ∷ []
 
 pub rows-hold : all rows ≡ true
-unfolding after pushed answered ring tabulate sumZ mean axis observe raised sets clears code held range-g ignores unwritable image-blocks sleep-blocks locked working begins stored configure is-set is-by sooner first earliest samples-run next-sample write-end sample-due next-deadline may-select selected-to Supply.cut Supply.lowered Supply.raised Supply.set-supply shadowing timed-facts facts wrong-length beyond any-beyond out-of-range late too-late goes-back due-by before-due beside-due first-found refusal
+unfolding after pushed answered ring tabulate sumZ mean axis observe raised sets clears code held range-g ignores unwritable image-blocks sleep-blocks locked working begins stored configure is-set is-by sooner first earliest samples-run next-sample write-end sample-due next-deadline may-select selected-to Supply.cut Supply.supply-low Supply.supply-ok Supply.set-supply shadowing timed-facts facts wrong-length beyond any-beyond out-of-range late too-late goes-back due-by before-due beside-due first-found refusal
 rows-hold = refl

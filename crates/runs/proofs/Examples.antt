@@ -1,4 +1,4 @@
--- Demand 3 is not empty: concrete lists, computed. Assumes nothing.
+-- Demand 3 is not empty: concrete lists, computed.
 use Prim.Native.Nat.{ℕ, _+_, _/_, _^_}
 use native.Mathlib.Omega.{arith}
 use mathlib.Core.Path.{_≡_, refl, ap, sym, _∙_}
@@ -113,7 +113,7 @@ record Computed : Type 0 where
   same-kept : kept stock-start two-writes ≡ kept other-start no-write
 
 computed : Computed
-unfolding NC.mixed NC.low-half NC.threshold NC.crossing NC.bits-where NC.byte RA.unwritable RA.working RA.stored RA.image-blocks RA.sleep-blocks RA.locked RA.ignores RA.begins DD.is-set DD.is-at DD.is-by DD.sooner DD.unless-at DD.first DD.earliest CW.written-control CW.written-register CW.written CW.self-test CW.sleep SF.differs SF.reads SF.acknowledges SF.addressed SF.completed SF.take-bit SF.moves SF.shifts SF.consumes-at-rise BR.runs BI.cell BI.with-cell BC.pause-end BC.automatic-control BW.interrupts-written BW.tested BW.slept BW.image-written BW.applied BW.taken BS.samples-run BS.next-sample BS.write-end BS.sample-due BS.next-deadline BS.limit BS.advanced BS.lags BS.sync-local-until BL.selected-to BL.may-select BE.moved BE.first-bit BE.write-done BE.spi-listens BE.rising-effect BE.rise-synced BU.cut BU.drained BU.returned BU.lowered BU.raised BU.set-supply BD.pause-ended BD.write-ended BD.image-ended BD.wake-ended BD.sample-ended TF.timed-facts TF.facts T.wrong-length T.out-of-range T.late T.too-late T.goes-back T.due-by T.due-at T.before-due T.beside-due T.first-found T.refusal T.start-refusal T.unless-refused C.after-start C.effect C.timed-adds C.leaves C.adds RL.after RL.accepted RL.zeroed RL.met-zero RL.last-kept RD.spi-write RD.timed-does RD.does RB.operation RB.completing RB.cutting RB.supplied RB.runs RB.accepted-write RB.of-write RB.began RB.changed-at RB.entered RB.booked
+unfolding NC.mixed NC.low-half NC.threshold NC.crossing NC.bits-where NC.byte RA.unwritable RA.working RA.stored RA.image-blocks RA.sleep-blocks RA.locked RA.ignores RA.begins DD.is-set DD.is-at DD.is-by DD.sooner DD.unless-at DD.first DD.earliest CW.written-control CW.written-register CW.kind-of-write CW.self-test CW.sleep SF.differs SF.reads SF.first-bit SF.addressed SF.completed SF.take-bit SF.moves SF.shifts SF.consumes-at-rise BR.runs BI.cell-byte BI.with-cell BC.pause-end BC.automatic-control BW.interrupts-written BW.tested BW.slept BW.image-written BW.register-effect BW.write-effect BS.samples-run BS.next-sample BS.write-end BS.sample-due BS.next-deadline BS.limit BS.caught-up BS.samples-on-demand BS.sync-local-until BL.selected-to BL.may-select BE.moved BE.first-bit-taken BE.write-done BE.spi-listens BE.rising-effect BE.rise-synced BU.cut BU.zero-while-off BU.returned BU.supply-low BU.supply-ok BU.set-supply BD.pause-ended BD.write-ended BD.image-ended BD.wake-ended BD.sample-ended TF.timed-facts TF.facts T.wrong-length T.out-of-range T.late T.too-late T.goes-back T.due-by T.due-at T.before-due T.beside-due T.first-found T.refusal T.start-refusal T.unless-refused C.after-start C.effect C.timed-adds C.leaves C.adds RL.after RL.accepted RL.zeroed RL.met-zero RL.last-kept RD.spi-write RD.timed-does RD.does RB.operation RB.completing RB.cutting RB.supplied RB.runs RB.accepted-write RB.of-write RB.began RB.changed-at RB.entered RB.booked
 computed = record { first-accepted = refl; first-returns = refl; first-from-zero = refl; first-book = refl; second-accepted = refl; second-returns = refl; second-from-zero = refl; second-book = refl; not-from-zero = refl; same-kept = refl }
 
 -- ---- the arguments are of their declared types

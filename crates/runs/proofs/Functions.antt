@@ -1,4 +1,4 @@
--- Demand 3 over the code: runs whose every step is a reply that the functions' own contracts allow. Assumes nothing.
+-- Demand 3 over the code: runs whose every step is a reply that the functions' own contracts allow.
 use Prim.Native.Nat.{ℕ}
 use mathlib.Core.Path.{_≡_, refl, sym, ap, _∙_}
 use mathlib.Core.Bool.{Bool, true, false, cond}
@@ -19,7 +19,7 @@ use Rattle.time.specs.declared.Time.{Time}
 use Rattle.i2c.specs.declared.types.Levels.{Levels}
 use Rattle.spi.specs.declared.types.Drive.{Drive}
 use Rattle.deadlines.specs.declared.Deadline.{Deadline}
-use Rattle.deadlines.specs.Earliest.{moment-injective}
+use Rattle.deadlines.specs.Theorems.Earliest.{moment-injective}
 use Rattle.calls.specs.declared.types.Timed.{Timed}
 use Rattle.calls.specs.declared.types.Timed.the-variants as Timed
 use Rattle.calls.specs.declared.types.Call.{Call}
@@ -32,8 +32,7 @@ use Rattle.calls.specs.Facts.{bringing, facts}
 use Rattle.calls.specs.Table as T
 use Rattle.calls.specs.Theorems.Left.{temperature-accepted, select-accepted, view-accepted}
 use Rattle.sensor.specs.declared.types.View.{View}
-use Rattle.sensor.specs.Image.{nonvolatile}
-use Rattle.sensor.specs.Bytes.{peek}
+use Rattle.sensor.specs.RegisterReads.{peek}
 use Rattle.writes.specs.Samples.{interaction-deadline}
 use Rattle.waits.specs.declared.types.Report.{Report}
 use Rattle.waits.specs.declared.types.Report.the-variants as Report
@@ -42,7 +41,7 @@ use Rattle.bma150.specs.declared.types.Reported.{Reported}
 use Rattle.bma150.specs.declared.types.Answered.{Answered}
 use Rattle.bma150.specs.declared.host.Bma150.{Bma150}
 use Rattle.bma150.specs.Values.{report-values, view-value}
-use Rattle.bma150.specs.Called.{Added, reported, of-view, put-in, timed-adds, served, leaves, adds, number, called, start-number, after-start, interrupt, output, data-output}
+use Rattle.bma150.specs.Called.{Added, reported, of-view, put-in, timed-adds, served, leaves, adds, number, called, after-start, interrupt, output, data-output}
 use Rattle.bma150.specs.Lent.{DueLent, PinsLent}
 use Rattle.bma150.specs.Theorems.Values.{drive-letter-injective}
 use Rattle.bma150.specs.Theorems.Added.{reported-is, silent-is, buffer-is, image-leaves, view-leaves, view-adds}

@@ -1,4 +1,4 @@
--- What leaves the stored bytes, the running write, the supply, what is kept and the select pin as they are. Assumes nothing.
+-- What leaves the stored bytes, the running write, the supply, what is kept and the select pin as they are.
 use Prim.Native.Nat.{ℕ}
 use mathlib.Core.Path.{_≡_, refl, ap, _∙_}
 use mathlib.Core.Bool.{Bool, true, false, cond, not, _&&_}
@@ -14,8 +14,8 @@ use Rattle.spi.specs.declared.types.Sent.the-variants as Sent
 use Rattle.spi.specs.declared.types.Clocked.{Clocked}
 use Rattle.spi.specs.declared.types.Shift.{Shift}
 use Rattle.spi.specs.declared.types.Shift.the-variants as Shift
-use Rattle.control.specs.declared.types.Written.{Written}
-use Rattle.control.specs.declared.types.Written.the-variants as Written
+use Rattle.control.specs.declared.types.WriteKind.{WriteKind}
+use Rattle.control.specs.declared.types.WriteKind.the-variants as WriteKind
 use Rattle.control.specs.declared.types.SelfTest.{SelfTest}
 use Rattle.control.specs.declared.types.SelfTest.the-variants as SelfTest
 use Rattle.control.specs.declared.types.Sleep.{Sleep}
@@ -32,17 +32,17 @@ use Rattle.control.specs.Writes as Writes
 use Rattle.registers.specs.Map.{at, operation, latch-INT}
 use Rattle.i2c.specs.Engine as E
 use Rattle.spi.specs.Frame as F
-use Rattle.sensor.specs.Record.{with-frame, is-off, is-dead, is-quiet, four-wire, automatic}
-use Rattle.sensor.specs.Mode.{criterion, may-sleep, paused-again, held, verified, automatic-control}
+use Rattle.sensor.specs.Record.{with-frame, is-off, serial-not-ready, is-quiet, four-wire, automatic}
+use Rattle.sensor.specs.Mode.{criterion, may-sleep, pause-restarted, interrupt-held, pause-if-idle, automatic-control}
 use Rattle.sensor.specs.Record.{put}
-use Rattle.writes.specs.Write.{recounted, interrupts-reset, interrupts-written, tested, slept, image-written, control-written, mode-written, operation-written, applied, followed}
-use Rattle.writes.specs.Samples.{advanced, lags, sync-local-until}
-use Rattle.sensor.specs.Bytes.{fetched, notes, noted}
+use Rattle.writes.specs.Write.{recounted, interrupts-reset, interrupts-written, tested, slept, image-written, control-written, mode-written, operation-written, register-effect, then-automatic}
+use Rattle.writes.specs.Samples.{caught-up, samples-on-demand, sync-local-until}
+use Rattle.sensor.specs.RegisterReads.{fetched, counts-as-read, byte-read}
 use Rattle.serial.specs.SpiEdges.{spi-listens, moved, shift-output, rise-synced, fall-synced, falling-effect, falling-at}
 use Rattle.serial.specs.I2cPins.{i2c-listens, pins-synced}
 use Rattle.sensor.specs.Select.{reselected, selected-to}
-use Rattle.waits.specs.Supply.{woken}
-use Rattle.waits.specs.Due.{sample-is, waits-ended, pause-ended, image-ended, wake-ended, sample-ended, sample-served}
+use Rattle.waits.specs.Supply.{reacquired}
+use Rattle.waits.specs.Due.{sample-due-now, waits-ended, pause-ended, image-ended, wake-ended, sample-ended, sample-served}
 
 -- ---- the five parts
 
@@ -72,22 +72,22 @@ itself s = record { same = refl }
 
 -- ---- automatic mode
 
-paused-again-keeps : (s : Sensor) (now : Time) → Keeps s (paused-again s now)
-unfolding paused-again
-paused-again-keeps s now = pick (pauses-again (s .sampling .asleep) (is-set (s .deadlines .pause))) (record { same = refl }) (itself s)
+pause-restarted-keeps : (s : Sensor) (now : Time) → Keeps s (pause-restarted s now)
+unfolding pause-restarted
+pause-restarted-keeps s now = pick (pauses-again (s .sampling .asleep) (is-set (s .deadlines .pause))) (record { same = refl }) (itself s)
 
-held-keeps : (s : Sensor) (now : Time) (was : Bool) → Keeps s (held s now was)
-unfolding held
-held-keeps s now was = pick (holds was (latch-INT (at (s .registers) operation)) (criterion s)) (record { same = refl }) (itself s)
+interrupt-held-keeps : (s : Sensor) (now : Time) (was : Bool) → Keeps s (interrupt-held s now was)
+unfolding interrupt-held
+interrupt-held-keeps s now was = pick (holds was (latch-INT (at (s .registers) operation)) (criterion s)) (record { same = refl }) (itself s)
 
-verified-keeps : (s : Sensor) (now : Time) (verify : Bool) → Keeps s (verified s now verify)
-unfolding verified
-verified-keeps s now verify = pick (may-sleep s verify) (record { same = refl }) (itself s)
+pause-if-idle-keeps : (s : Sensor) (now : Time) (verify : Bool) → Keeps s (pause-if-idle s now verify)
+unfolding pause-if-idle
+pause-if-idle-keeps s now verify = pick (may-sleep s verify) (record { same = refl }) (itself s)
 
 pub automatic-keeps : (s : Sensor) (now : Time) (was verify : Bool) → Keeps s (automatic-control s now was verify)
 unfolding automatic-control
 automatic-keeps s now was verify =
-    pick (automatic s) (then (paused-again-keeps s now) (then (held-keeps _ now was) (verified-keeps _ now verify))) (record { same = refl })
+    pick (automatic s) (then (pause-restarted-keeps s now) (then (interrupt-held-keeps _ now was) (pause-if-idle-keeps _ now verify))) (record { same = refl })
 
 -- ---- register writes but stored ones
 
@@ -132,29 +132,29 @@ mode-keeps s turns = pick turns (then (recounted-keeps s true) (record { same = 
 operation-keeps : (s : Sensor) (value : ℕ) → Keeps s (operation-written s value)
 operation-keeps s value = then (record { same = refl }) (mode-keeps _ _)
 
-applied-keeps : (w : Written) (s : Sensor) (address value : ℕ) (now : Time) → Keeps s (applied w s address value now)
-unfolding applied
-applied-keeps Written.Ignored s address value now = itself s
-applied-keeps Written.Stored s address value now = itself s
-applied-keeps Written.Reset s address value now = record { same = refl }
-applied-keeps Written.Control s address value now = control-keeps s value now
-applied-keeps Written.Measurement s address value now = record { same = refl }
-applied-keeps Written.Operation s address value now = operation-keeps s value
-applied-keeps Written.Durations s address value now = record { same = refl }
-applied-keeps Written.Plain s address value now = record { same = refl }
+register-effect-keeps : (w : WriteKind) (s : Sensor) (address value : ℕ) (now : Time) → Keeps s (register-effect w s address value now)
+unfolding register-effect
+register-effect-keeps WriteKind.Ignored s address value now = itself s
+register-effect-keeps WriteKind.Stored s address value now = itself s
+register-effect-keeps WriteKind.Reset s address value now = record { same = refl }
+register-effect-keeps WriteKind.Control s address value now = control-keeps s value now
+register-effect-keeps WriteKind.Measurement s address value now = record { same = refl }
+register-effect-keeps WriteKind.Operation s address value now = operation-keeps s value
+register-effect-keeps WriteKind.Durations s address value now = record { same = refl }
+register-effect-keeps WriteKind.Plain s address value now = record { same = refl }
 
-pub followed-keeps : (w : Written) (s : Sensor) (address value : ℕ) (now : Time) → Keeps s (followed w s address value now)
-followed-keeps w s address value now = then (applied-keeps w s address value now) (automatic-keeps _ now _ false)
+pub then-automatic-keeps : (w : WriteKind) (s : Sensor) (address value : ℕ) (now : Time) → Keeps s (then-automatic w s address value now)
+then-automatic-keeps w s address value now = then (register-effect-keeps w s address value now) (automatic-keeps _ now _ false)
 
 -- ---- samples
 
-advanced-keeps : (s : Sensor) (end : Time) (n : ℕ) → Keeps s (advanced s end n)
-unfolding advanced
-advanced-keeps s end n = pick (eqb n 0) (itself s) (then (record { same = refl }) (automatic-keeps _ end false false))
+caught-up-keeps : (s : Sensor) (end : Time) (n : ℕ) → Keeps s (caught-up s end n)
+unfolding caught-up
+caught-up-keeps s end n = pick (eqb n 0) (itself s) (then (record { same = refl }) (automatic-keeps _ end false false))
 
 pub sync-keeps : (s : Sensor) (end : Time) (inclusive : Bool) → Keeps s (sync-local-until s end inclusive)
 unfolding sync-local-until
-sync-keeps s end inclusive = pick (lags s) (advanced-keeps s end _) (itself s)
+sync-keeps s end inclusive = pick (samples-on-demand s) (caught-up-keeps s end _) (itself s)
 
 -- ---- reads, select and the output
 
@@ -163,10 +163,10 @@ unfolding fetched
 fetched-keeps (View.Byte b) s address = record { same = refl }
 fetched-keeps View.Withheld s address = record { same = refl }
 
-pub noted-keeps : (t : Sent) (s : Sensor) (address : ℕ) → Keeps s (noted t s address)
-unfolding noted
-noted-keeps Sent.Nothing s address = itself s
-noted-keeps (Sent.Byte b) s address = pick (notes s address) (record { same = refl }) (itself s)
+pub byte-read-keeps : (t : Sent) (s : Sensor) (address : ℕ) → Keeps s (byte-read t s address)
+unfolding byte-read
+byte-read-keeps Sent.Nothing s address = itself s
+byte-read-keeps (Sent.Byte b) s address = pick (counts-as-read s address) (record { same = refl }) (itself s)
 
 -- the select pin is the one asked for
 abbrev pub with-selected : Core → Bool → Core
@@ -220,7 +220,7 @@ pub falling-keeps : (s : Sensor) (now : Time) → Keeps s (falling-at s now)
 unfolding falling-effect
 falling-keeps s now =
     let t = fall-synced s now in
-    then (fall-synced-keeps s now) (pick (not (is-dead t) && not (is-off t)) (shift-keeps t _) (itself t))
+    then (fall-synced-keeps s now) (pick (not (serial-not-ready t) && not (is-off t)) (shift-keeps t _) (itself t))
 
 -- ---- the steps of a due call but the end of a write
 
@@ -240,16 +240,16 @@ wake-ended-keeps s now = pick (is-at (s .deadlines .wake) now) (record { same = 
 
 sample-ended-keeps : (s : Sensor) (now : Time) → Keeps s (sample-ended s now)
 unfolding sample-ended
-sample-ended-keeps s now = pick (sample-is s now) (record { same = refl }) (itself s)
+sample-ended-keeps s now = pick (sample-due-now s now) (record { same = refl }) (itself s)
 
 sample-keeps : (s : Sensor) (now : Time) (was hold : Bool) → Keeps s (sample-served s now was hold)
 sample-keeps s now was hold = then (sample-ended-keeps s now) (automatic-keeps _ now was _)
 
-pub rest-keeps : (s : Sensor) (now : Time) (was hold : Bool) → Keeps s (sample-served (wake-ended (image-ended s now) now) now was hold)
-rest-keeps s now was hold = then (image-ended-keeps s now) (then (wake-ended-keeps _ now) (sample-keeps _ now was hold))
+pub scalars-keeps : (s : Sensor) (now : Time) (was hold : Bool) → Keeps s (sample-served (wake-ended (image-ended s now) now) now was hold)
+scalars-keeps s now was hold = then (image-ended-keeps s now) (then (wake-ended-keeps _ now) (sample-keeps _ now was hold))
 
 -- ---- a warm return's wake
 
-pub woken-keeps : (s : Sensor) (now : Time) → Keeps s (woken s now)
-unfolding woken
-woken-keeps s now = pick (s .sampling .asleep) (itself s) (record { same = refl })
+pub waits-served-keeps : (s : Sensor) (now : Time) → Keeps s (reacquired s now)
+unfolding reacquired
+waits-served-keeps s now = pick (s .sampling .asleep) (itself s) (record { same = refl })

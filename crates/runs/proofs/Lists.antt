@@ -1,13 +1,11 @@
--- Demand 3 over the definitions: by induction over the list of calls. Assumes nothing.
+-- Demand 3 over the definitions: by induction over the list of calls.
 use Prim.Native.Nat.{ℕ}
 use native.Mathlib.Omega.{arith}
 use native.Mathlib.Nat.{le-refl}
 use mathlib.Core.Path.{_≡_, refl, sym, ap, subst, _∙_}
 use mathlib.Core.Bool.{Bool, true, false, cond}
 use mathlib.Core.List.{List, [], _∷_, _++_}
-use mathlib.Core.Option.{Option, none, some, Option·some-injective}
 use lib.Dec.{ltb, eqb}
-use lib.IntN.{ℤ}
 use borrow.Author.Tests.{leb-true, le-ltb}
 use Rattle.time.specs.declared.Time.{Time}
 use Rattle.time.specs.Time.{ticks}
@@ -20,14 +18,14 @@ use Rattle.bma150.specs.declared.host.Bma150.{Bma150}
 use Rattle.sensor.specs.declared.types.Sensor.{Sensor}
 use Rattle.sensor.specs.Record.{is-off}
 use Rattle.writes.specs.Samples.{sync-local-until}
-use Rattle.sensor.specs.Image.{image-at, nonvolatile, from-nonvolatile, powered}
-use Rattle.waits.specs.Supply.{silently, lowered, raised, returned, cold-return, warm-return, set-supply}
+use Rattle.sensor.specs.Image.{image-at, nonvolatile, powered}
+use Rattle.waits.specs.Supply.{without-report, supply-low, supply-ok, returned, cold-return, warm-return, set-supply}
 use Rattle.calls.specs.Facts.{timed-facts, facts}
 use Rattle.calls.specs.Table as T
 use Rattle.calls.specs.Theorems.Left.{accepted-is, refused-is}
 use Rattle.bma150.specs.Called.{Added, started, called, leaves, adds, effect, start-number, after-start}
 use Rattle.runs.specs.Does.{does}
-use Rattle.runs.specs.Lists.{Declared, accepts, step, Start, after, answers, accepted, AllDeclared, zeroed, met-zero, last-kept, kept, Returns}
+use Rattle.runs.specs.Lists.{Declared, accepts, step, Start, after, answers, accepted, AllDeclared, met-zero, last-kept, kept, Returns}
 use Rattle.runs.specs.Lists as L
 use Rattle.runs.specs.Book.{Book, book, with-rest, struck, opened, changed, entered, booked}
 use Rattle.runs.specs.Claim.{ending, left, stored-bytes, Claim}
@@ -129,11 +127,11 @@ fresh now cells k = record { sensor = powered now cells k; last = now }
 
 returns-cold : (u : Sensor) (rail : ℕ) (now : Time) → ltb rail 2400 ≡ false → is-off u ≡ true → u .supply .cold ≡ true
     → set-supply u rail now .sensor ≡ powered now (u .nonvolatile) (u .kept)
-unfolding set-supply raised returned
+unfolding set-supply supply-ok returned
 returns-cold u rail now p q r = go (ltb rail 2400) (is-off u) (u .supply .cold) p q r
   where
     go : (low out cold : Bool) → low ≡ false → out ≡ true → cold ≡ true
-        → cond low (lowered u (eqb rail 0) now) (silently (cond out (cond cold (cold-return u now) (warm-return u now)) u)) .sensor ≡ powered now (u .nonvolatile) (u .kept)
+        → cond low (supply-low u (eqb rail 0) now) (without-report (cond out (cond cold (cold-return u now) (warm-return u now)) u)) .sensor ≡ powered now (u .nonvolatile) (u .kept)
     go true out cold x y z = absurd (let w : _≡_ {A = ℕ} 0 1 = cc in omega arith)
     go false true true x y z = refl
     go false true false x y z = absurd (let w : _≡_ {A = ℕ} 0 1 = cc in omega arith)

@@ -1,4 +1,4 @@
--- What a due call and a supply call do to the five parts. Assumes nothing.
+-- What a due call and a supply call do to the five parts.
 use Prim.Native.Nat.{ℕ}
 use mathlib.Core.Path.{_≡_, refl, ap, _∙_}
 use mathlib.Core.Bool.{Bool, true, false, cond}
@@ -6,7 +6,7 @@ use mathlib.Core.List.{List}
 use lib.Dec.{ltb, eqb}
 use Rattle.time.specs.declared.Time.{Time}
 use Rattle.time.specs.Time.{same}
-use Rattle.nv.specs.Cell.{cell-of}
+use Rattle.nv.specs.Cell.{cell-number}
 use Rattle.nv.specs.Cycle as Cycle
 use Rattle.deadlines.specs.declared.Deadline.the-variants.{At, Never}
 use Rattle.deadlines.specs.Deadlines.{is-set}
@@ -15,12 +15,12 @@ use Rattle.sensor.specs.declared.types.Operation.the-variants as Operation
 use Rattle.sensor.specs.declared.types.Supply.{Supply}
 use Rattle.sensor.specs.declared.types.Sensor.{Sensor}
 use Rattle.sensor.specs.Record.{is-off}
-use Rattle.sensor.specs.Image.{cell, with-cell}
+use Rattle.sensor.specs.Image.{cell-byte, with-cell}
 use Rattle.sensor.specs.Mode.{criterion}
 use Rattle.sensor.specs.Select.{may-select}
-use Rattle.waits.specs.Supply.{silently, cut, power-off, drained, warm-return, cold-return, returned, lowered, raised, set-supply}
-use Rattle.waits.specs.Due.{waits-ended, pause-ended, completed, write-ended, hold-is, at-deadline}
-use Rattle.runs.proofs.Keeps.{Core, core, with-selected, select-core, waits-keeps, rest-keeps, woken-keeps}
+use Rattle.waits.specs.Supply.{without-report, cut, power-off, zero-while-off, warm-return, cold-return, returned, supply-low, supply-ok, set-supply}
+use Rattle.waits.specs.Due.{waits-ended, pause-ended, completed, write-ended, hold-ends-now, at-deadline}
+use Rattle.runs.proofs.Keeps.{Core, core, with-selected, select-core, waits-keeps, scalars-keeps, waits-served-keeps}
 
 -- ---- parts replaced
 
@@ -45,14 +45,14 @@ unfolding write-ended ended
 ended-is Operation.Idle s now = refl
 ended-is (Operation.Running w a v) s now = go (same (Cycle.deadline w) now)
   where
-    go : (b : Bool) → core (cond b (completed s a v) (silently s) .sensor) ≡ cond b (over (core s) (with-cell (s .nonvolatile) a v)) (core s)
+    go : (b : Bool) → core (cond b (completed s a v) (without-report s) .sensor) ≡ cond b (over (core s) (with-cell (s .nonvolatile) a v)) (core s)
     go true = refl
     go false = refl
 
 pub due-is : (s : Sensor) (now : Time) → core (at-deadline s now .sensor) ≡ ended (s .writing .operation) (core s) now
 due-is s now =
     let p = pause-ended (waits-ended s now) now in
-    rest-keeps (write-ended (p .writing .operation) p now .sensor) now (criterion s) (hold-is s now) .same
+    scalars-keeps (write-ended (p .writing .operation) p now .sensor) now (criterion s) (hold-ends-now s now) .same
     ∙ ended-is (p .writing .operation) p now
     ∙ ap (λ (k : Core). ended (k .writing .operation) k now) (waits-keeps s now .same)
 
@@ -60,7 +60,7 @@ due-is s now =
 
 unfoldable pub cut-to : Operation → Core → Time → Core
 cut-to Operation.Idle k now = k
-cut-to (Operation.Running w a v) k now = over k (with-cell (k .cells) a (Cycle.byte-at w (cell (k .cells) a) v (cell-of a) now))
+cut-to (Operation.Running w a v) k now = over k (with-cell (k .cells) a (Cycle.byte-at w (cell-byte (k .cells) a) v (cell-number a) now))
 
 abbrev pub lost : Core → Time → Bool → Core
 lost k now cold = supplied-by (with-selected (cut-to (k .writing .operation) k now) false) (record { «unpowered_since» = At now; cold = cold })
@@ -92,8 +92,8 @@ lost-is s now cold =
     ap (λ (k : Core). supplied-by k (record { «unpowered_since» = At now; cold = cold }))
     (select-core c false ∙ ap (λ (k : Core). with-selected k false) (cut-is (s .writing .operation) s now))
 
-emptied-is : (s : Sensor) (zero : Bool) → core (drained s zero) ≡ cond zero (emptied (core s)) (core s)
-unfolding drained
+emptied-is : (s : Sensor) (zero : Bool) → core (zero-while-off s zero) ≡ cond zero (emptied (core s)) (core s)
+unfolding zero-while-off
 emptied-is s true = refl
 emptied-is s false = refl
 
@@ -103,14 +103,14 @@ returned-is s now = go (s .supply .cold)
   where
     go : (b : Bool) → core (cond b (cold-return s now) (warm-return s now)) ≡ cond b (cold-again (core s)) (warm-again (core s))
     go true = refl
-    go false = woken-keeps _ now .same
+    go false = waits-served-keeps _ now .same
 
 pub supply-is : (s : Sensor) (rail : ℕ) (now : Time) → core (set-supply s rail now .sensor) ≡ supply-to (core s) rail now
-unfolding set-supply lowered raised
+unfolding set-supply supply-low supply-ok
 supply-is s rail now = go (ltb rail 2400) (is-off s)
   where
     go : (low out : Bool)
-        → core (cond low (cond out (silently (drained s (eqb rail 0))) (power-off s now (eqb rail 0))) (silently (cond out (returned s now) s)) .sensor)
+        → core (cond low (cond out (without-report (zero-while-off s (eqb rail 0))) (power-off s now (eqb rail 0))) (without-report (cond out (returned s now) s)) .sensor)
         ≡ cond low (cond out (cond (eqb rail 0) (emptied (core s)) (core s)) (lost (core s) now (eqb rail 0))) (cond out (cond (s .supply .cold) (cold-again (core s)) (warm-again (core s))) (core s))
     go true true = emptied-is s (eqb rail 0)
     go true false = lost-is s now (eqb rail 0)

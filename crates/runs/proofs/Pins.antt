@@ -1,4 +1,4 @@
--- A pin call changes the running write alone of the five parts, and as the book says. Assumes nothing.
+-- A pin call changes the running write alone of the five parts, and as the book says.
 use Prim.Native.Nat.{ℕ, _%_}
 use mathlib.Core.Path.{_≡_, refl, sym, ap, subst, _∙_}
 use mathlib.Core.Bool.{Bool, true, false, cond, not, _&&_}
@@ -6,7 +6,6 @@ use lib.Dec.{ltb}
 use native.Mathlib.Omega.{arith}
 use Rattle.time.specs.declared.Time.{Time}
 use Rattle.nv.specs.Cycle as Cycle
-use Rattle.registers.specs.Map.{at, control}
 use Rattle.laws.specs.Bytes.{shifted-in}
 use Rattle.i2c.specs.declared.types.State.{State}
 use Rattle.i2c.specs.declared.types.Edge.{Edge}
@@ -20,25 +19,25 @@ use Rattle.spi.specs.declared.types.Sent.{Sent}
 use Rattle.spi.specs.declared.types.Sent.the-variants as Sent
 use Rattle.spi.specs.declared.types.Clocked.{Clocked}
 use Rattle.spi.specs.declared.types.Clocked.the-variants as Clocked
-use Rattle.spi.specs.declared.types.Acknowledged.{Acknowledged}
-use Rattle.spi.specs.declared.types.Acknowledged.the-variants as Acknowledged
+use Rattle.spi.specs.declared.types.FirstBit.{FirstBit}
+use Rattle.spi.specs.declared.types.FirstBit.the-variants as FirstBit
 use Rattle.spi.specs.declared.types.Write.{Write}
 use Rattle.spi.specs.declared.types.Write.the-variants as Write
 use Rattle.spi.specs.Frame as F
-use Rattle.control.specs.declared.types.Written.{Written}
-use Rattle.control.specs.declared.types.Written.the-variants as Written
-use Rattle.control.specs.Begins.{is-stored, stored-begins}
+use Rattle.control.specs.declared.types.WriteKind.{WriteKind}
+use Rattle.control.specs.declared.types.WriteKind.the-variants as WriteKind
+use Rattle.control.specs.Theorems.Begins.{is-stored, stored-begins}
 use Rattle.sensor.specs.declared.types.Operation.the-variants as Operation
 use Rattle.sensor.specs.declared.types.Writing.{Writing}
 use Rattle.sensor.specs.declared.types.Sensor.{Sensor}
-use Rattle.sensor.specs.Record.{with-writing, with-frame, with-i2c, is-quiet, is-copying, is-writing, four-wire}
-use Rattle.writes.specs.Write.{taken, write-kind, write-register}
-use Rattle.sensor.specs.Bytes.{peek, notes, read-noted, noted, acknowledge-read}
-use Rattle.serial.specs.SpiEdges.{first-bit, write-done, bit-done, bit-taken, turned, shift-output, spi-listens, rising-effect}
+use Rattle.sensor.specs.Record.{with-writing, with-frame, with-i2c, is-quiet, gate, is-writing, four-wire}
+use Rattle.writes.specs.Write.{write-effect, write-kind, write-register}
+use Rattle.sensor.specs.RegisterReads.{peek, counts-as-read, acceleration-read, byte-read, read-began}
+use Rattle.serial.specs.SpiEdges.{first-bit-taken, write-done, bit-done, bit-taken, turned, shift-output, spi-listens, rising-effect}
 use Rattle.serial.specs.I2cPins.{acted, stepped, ones-for, i2c-listens, i2c-pins}
 use Rattle.runs.specs.Does.{spi-write, action-write, i2c-write}
 use Rattle.runs.specs.Book.{operation, accepted-write, of-write}
-use Rattle.runs.proofs.Keeps.{Keeps, then, itself, followed-keeps, framed-keeps, shift-keeps, noted-keeps, fetched-keeps}
+use Rattle.runs.proofs.Keeps.{Keeps, then, itself, then-automatic-keeps, framed-keeps, shift-keeps, byte-read-keeps, fetched-keeps}
 
 -- the running write after this register write
 abbrev pub begun-writing : Write → Sensor → Time → Writing
@@ -46,25 +45,25 @@ begun-writing w s now = cond (accepted-write w s (is-writing s)) (record { opera
 
 -- ---- a register write
 
-taken-keeps : (w : Written) (s : Sensor) (address value : ℕ) (now : Time)
-    → Keeps (with-writing s (cond (is-stored w) (record { operation = Operation.Running (Cycle.start now) address value }) (s .writing))) (taken w s address value now)
-unfolding taken is-stored
-taken-keeps Written.Ignored s address value now = record { same = refl }
-taken-keeps Written.Stored s address value now = record { same = refl }
-taken-keeps Written.Reset s address value now = followed-keeps Written.Reset s address value now
-taken-keeps Written.Control s address value now = followed-keeps Written.Control s address value now
-taken-keeps Written.Measurement s address value now = followed-keeps Written.Measurement s address value now
-taken-keeps Written.Operation s address value now = followed-keeps Written.Operation s address value now
-taken-keeps Written.Durations s address value now = followed-keeps Written.Durations s address value now
-taken-keeps Written.Plain s address value now = followed-keeps Written.Plain s address value now
+write-effect-keeps : (w : WriteKind) (s : Sensor) (address value : ℕ) (now : Time)
+    → Keeps (with-writing s (cond (is-stored w) (record { operation = Operation.Running (Cycle.start now) address value }) (s .writing))) (write-effect w s address value now)
+unfolding write-effect is-stored
+write-effect-keeps WriteKind.Ignored s address value now = record { same = refl }
+write-effect-keeps WriteKind.Stored s address value now = record { same = refl }
+write-effect-keeps WriteKind.Reset s address value now = then-automatic-keeps WriteKind.Reset s address value now
+write-effect-keeps WriteKind.Control s address value now = then-automatic-keeps WriteKind.Control s address value now
+write-effect-keeps WriteKind.Measurement s address value now = then-automatic-keeps WriteKind.Measurement s address value now
+write-effect-keeps WriteKind.Operation s address value now = then-automatic-keeps WriteKind.Operation s address value now
+write-effect-keeps WriteKind.Durations s address value now = then-automatic-keeps WriteKind.Durations s address value now
+write-effect-keeps WriteKind.Plain s address value now = then-automatic-keeps WriteKind.Plain s address value now
 
 register-keeps : (s : Sensor) (address value : ℕ) (now : Time)
     → Keeps (with-writing s (begun-writing (Write.Register address value) s now)) (write-register s address value now)
 unfolding accepted-write of-write operation
 register-keeps s address value now =
     subst (λ (b : Bool). Keeps (with-writing s (cond b (record { operation = Operation.Running (Cycle.start now) address value }) (s .writing))) (write-register s address value now))
-    (stored-begins address value (at (s .registers) control) (is-quiet s) (is-copying s) (s .sampling .asleep) (is-writing s))
-    (taken-keeps (write-kind s address value) s address value now)
+    (stored-begins address value (gate s) (is-writing s))
+    (write-effect-keeps (write-kind s address value) s address value now)
 
 -- ---- SPI
 
@@ -93,8 +92,8 @@ read-writes-nothing f mosi four a e = go (ltb (f .«rx_bits») 7)
     go false = rw e refl
 
 -- only a read is noted
-acknowledges-read : (x : Serial) (n a : ℕ) → F.acknowledges x n ≡ Acknowledged.Register a → (b : ℕ) × (x ≡ Serial.Read b)
-unfolding F.acknowledges
+acknowledges-read : (x : Serial) (n a : ℕ) → F.first-bit x n ≡ FirstBit.Register a → (b : ℕ) × (x ≡ Serial.Read b)
+unfolding F.first-bit
 acknowledges-read Serial.Address n a e = absurd (let z : _≡_ {A = ℕ} 0 1 = cc in omega arith)
 acknowledges-read (Serial.Read b) n a e = (b, refl)
 acknowledges-read (Serial.Write b) n a e = absurd (let z : _≡_ {A = ℕ} 0 1 = cc in omega arith)
@@ -114,12 +113,12 @@ bit-keeps t mosi now =
     (shift-keeps _ Clocked.Rise)
 
 -- a noted read leaves the frame
-noted-frame : (x : Sent) (s : Sensor) (a : ℕ) → noted x s a .frame ≡ s .frame
-unfolding noted
+noted-frame : (x : Sent) (s : Sensor) (a : ℕ) → byte-read x s a .frame ≡ s .frame
+unfolding byte-read
 noted-frame Sent.Nothing s a = refl
-noted-frame (Sent.Byte b) s a = go (notes s a)
+noted-frame (Sent.Byte b) s a = go (counts-as-read s a)
   where
-    go : (t : Bool) → cond t (read-noted s a b) s .frame ≡ s .frame
+    go : (t : Bool) → cond t (acceleration-read s a b) s .frame ≡ s .frame
     go true = refl
     go false = refl
 
@@ -131,22 +130,22 @@ nothing-begun (Write.Register a v) s now e = absurd (let z : _≡_ {A = ℕ} 0 1
 
 taken-bit-keeps : (s : Sensor) (mosi : Bool) (now : Time)
     → Keeps (with-writing s (begun-writing (F.take-bit (s .frame) mosi (four-wire s) .write) s now)) (bit-taken s mosi now)
-unfolding first-bit
-taken-bit-keeps s mosi now = go (F.acknowledges (s .frame .serial) (s .frame .«rx_bits»)) refl
+unfolding first-bit-taken
+taken-bit-keeps s mosi now = go (F.first-bit (s .frame .serial) (s .frame .«rx_bits»)) refl
   where
-    go : (k : Acknowledged) → F.acknowledges (s .frame .serial) (s .frame .«rx_bits») ≡ k
+    go : (k : FirstBit) → F.first-bit (s .frame .serial) (s .frame .«rx_bits») ≡ k
         → Keeps (with-writing s (begun-writing (F.take-bit (s .frame) mosi (four-wire s) .write) s now))
-        (shift-output (bit-done (F.take-bit (first-bit k s .frame) mosi (four-wire (first-bit k s))) (first-bit k s) now) Clocked.Rise)
-    go Acknowledged.Nothing e = bit-keeps s mosi now
-    go (Acknowledged.Register a) e =
-        let t = acknowledge-read s a in
+        (shift-output (bit-done (F.take-bit (first-bit-taken k s .frame) mosi (four-wire (first-bit-taken k s))) (first-bit-taken k s) now) Clocked.Rise)
+    go FirstBit.Nothing e = bit-keeps s mosi now
+    go (FirstBit.Register a) e =
+        let t = read-began s a in
         let r = acknowledges-read (s .frame .serial) (s .frame .«rx_bits») a e in
         let f : t .frame ≡ s .frame = noted-frame (s .frame .tx) s a in
         let p : begun-writing (F.take-bit (s .frame) mosi (four-wire s) .write) s now ≡ s .writing = nothing-begun _ s now (read-writes-nothing (s .frame) mosi (four-wire s) (r .0) (r .1)) in
         let q : begun-writing (F.take-bit (t .frame) mosi (four-wire t) .write) t now ≡ t .writing = nothing-begun _ t now (read-writes-nothing (t .frame) mosi (four-wire t) (r .0) (ap (λ (x : Frame). x .serial) f ∙ r .1)) in
         let k : Keeps (with-writing t (begun-writing (F.take-bit (t .frame) mosi (four-wire t) .write) t now)) (shift-output (bit-done (F.take-bit (t .frame) mosi (four-wire t)) t now) Clocked.Rise) = bit-keeps t mosi now in
         let m : Keeps t (shift-output (bit-done (F.take-bit (t .frame) mosi (four-wire t)) t now) Clocked.Rise) = subst (λ (x : Writing). Keeps (with-writing t x) (shift-output (bit-done (F.take-bit (t .frame) mosi (four-wire t)) t now) Clocked.Rise)) q k in
-        subst (λ (x : Writing). Keeps (with-writing s x) (shift-output (bit-done (F.take-bit (t .frame) mosi (four-wire t)) t now) Clocked.Rise)) (sym p) (then (noted-keeps (s .frame .tx) s a) m)
+        subst (λ (x : Writing). Keeps (with-writing s x) (shift-output (bit-done (F.take-bit (t .frame) mosi (four-wire t)) t now) Clocked.Rise)) (sym p) (then (byte-read-keeps (s .frame .tx) s a) m)
 
 -- a rise
 pub rising-keeps : (s : Sensor) (mosi : Bool) (now : Time) → Keeps (with-writing s (begun-writing (spi-write s mosi) s now)) (rising-effect s mosi now)
@@ -169,7 +168,7 @@ acted-keeps Action.Nothing s x now = record { same = refl }
 acted-keeps Action.Drop s x now = record { same = refl }
 acted-keeps (Action.Write r v) s x now = then {t = with-writing (with-i2c s x) (begun-writing (Write.Register r v) s now)} (record { same = refl }) (then (register-keeps (with-i2c s x) r v now) (record { same = refl }))
 acted-keeps (Action.Launch r) s x now = then {t = with-i2c s x} (record { same = refl }) (then (fetched-keeps (peek (with-i2c s x) r) (with-i2c s x) r) (record { same = refl }))
-acted-keeps (Action.Acknowledge r) s x now = then {t = with-i2c s x} (record { same = refl }) (noted-keeps (s .frame .tx) (with-i2c s x) r)
+acted-keeps (Action.ReadBegan r) s x now = then {t = with-i2c s x} (record { same = refl }) (byte-read-keeps (s .frame .tx) (with-i2c s x) r)
 
 pub pins-keeps : (s : Sensor) (e : Edge) (now : Time) → Keeps (with-writing s (begun-writing (i2c-write s e) s now)) (i2c-pins s e now)
 unfolding i2c-pins i2c-write accepted-write

@@ -1,4 +1,4 @@
--- Demand 3 of every host whose replies are the definitions'. Assumes nothing.
+-- Demand 3 of every host whose replies are the definitions'.
 use Prim.Native.Nat.{ℕ}
 use mathlib.Core.Path.{_≡_, refl, sym, ap, _∙_}
 use mathlib.Core.List.{List, [], _∷_}

@@ -1,4 +1,4 @@
--- What holds of every sensor of a list, and what acceptance says of a running write's end. Assumes nothing.
+-- What holds of every sensor of a list, and what acceptance says of a running write's end.
 use Prim.Native.Nat.{ℕ, _+_, _*_, _^_, _≤_, _<_}
 use native.Mathlib.Omega.{arith}
 use native.Mathlib.Nat.{le-antisymm}
@@ -11,14 +11,14 @@ use lib.Arith.{digits-lt}
 use borrow.Author.Tests.{leb-true, leb-false, lt-leb, le-leb, eqb-true, eq-eqb}
 use Rattle.time.specs.declared.Time.{Time}
 use Rattle.time.specs.Time.{ticks, same}
-use Rattle.time.specs.Laws.{ticks-time-below}
+use Rattle.time.specs.Theorems.Laws.{ticks-time-below}
 use Rattle.nv.specs.Cell.{write-length}
 use Rattle.nv.specs.Cycle as Cycle
 use Rattle.nv.specs.declared.WriteCycle.{WriteCycle}
 use Rattle.deadlines.specs.declared.Deadline.{Deadline}
 use Rattle.deadlines.specs.declared.Deadline.the-variants.{At, Never}
 use Rattle.deadlines.specs.Deadlines.{is-at, is-by, earliest}
-use Rattle.deadlines.specs.Earliest.{earliest-by-each}
+use Rattle.deadlines.specs.Theorems.Earliest.{earliest-by-each}
 use Rattle.sensor.specs.declared.types.Operation.{Operation}
 use Rattle.sensor.specs.declared.types.Operation.the-variants as Operation
 use Rattle.sensor.specs.declared.types.Sensor.{Sensor}

@@ -1,4 +1,4 @@
--- One call: the book changes as the sensor does, and what holds of every sensor of a list goes on holding. Assumes nothing.
+-- One call: the book changes as the sensor does, and what holds of every sensor of a list goes on holding.
 use Prim.Native.Nat.{ℕ, _^_, _<_}
 use mathlib.Core.Path.{_≡_, refl, sym, ap, subst, _∙_}
 use mathlib.Core.Option.{Option, none, some}
@@ -6,10 +6,7 @@ use mathlib.Core.Bool.{Bool, true, false, cond, not, _&&_, _||_}
 use lib.Dec.{leb, ltb, eqb}
 use lib.IntN.{ℤ}
 use Rattle.writes.specs.Samples.{sync-local-until}
-use Rattle.serial.specs.SpiEdges.{rising-at, falling-at}
-use Rattle.serial.specs.I2cPins.{i2c-pins-at}
 use Rattle.sensor.specs.declared.types.Sensor.{Sensor}
-use Rattle.sensor.specs.Select.{set-selected}
 use borrow.Author.Tests.{ltb-true, ltb-false, le-leb, lt-leb}
 use Rattle.time.specs.declared.Time.{Time}
 use Rattle.time.specs.Time.{same}
@@ -23,8 +20,6 @@ use Rattle.spi.specs.declared.types.Write.the-variants as Write
 use Rattle.spi.specs.Frame as F
 use Rattle.deadlines.specs.Deadlines.{is-set, is-at}
 use Rattle.sensor.specs.declared.types.Kept.{Kept}
-use Rattle.waits.specs.Supply.{set-input, set-temperature, set-supply}
-use Rattle.waits.specs.Due.{at-deadline}
 use Rattle.calls.specs.declared.types.Timed.{Timed}
 use Rattle.calls.specs.declared.types.Timed.the-variants as Timed
 use Rattle.calls.specs.declared.types.Call.{Call}
@@ -35,7 +30,7 @@ use Rattle.sensor.specs.declared.types.Operation.the-variants as Operation
 use Rattle.sensor.specs.declared.types.Writing.{Writing}
 use Rattle.sensor.specs.declared.types.Sensor.{Sensor}
 use Rattle.sensor.specs.declared.types.Supply.{Supply}
-use Rattle.sensor.specs.Record.{with-writing, is-off, is-dead, is-quiet, is-writing, four-wire}
+use Rattle.sensor.specs.Record.{with-writing, is-off, serial-not-ready, is-quiet, is-writing, four-wire}
 use Rattle.sensor.specs.Record as Record
 use Rattle.sensor.specs.Image.{with-cell}
 use Rattle.writes.specs.Samples.{interaction-deadline}
@@ -46,7 +41,7 @@ use Rattle.calls.specs.Table as T
 use Rattle.calls.specs.Facts.{timed-facts, facts}
 use Rattle.bma150.specs.Called.{effect, served, leaves}
 use Rattle.runs.specs.Lists.{DeclaredTimed, Declared, zeroed, accepts}
-use Rattle.runs.specs.Does.{at-rise, at-pins, spi-write, action-write, i2c-write, Asked, with-acceleration, with-temperature, supplying, timed, Does, timed-does, does}
+use Rattle.runs.specs.Does.{at-rise, at-pins, spi-write, action-write, i2c-write, with-acceleration, supplying, timed, Does, timed-does, does}
 use Rattle.runs.specs.Book.{Running, Book, book, struck, operation, closed, completing, completed, cutting, supplied, accepted-write, of-write, began, changed-at, changed}
 use Rattle.runs.specs.Book as B
 use Rattle.runs.proofs.Keeps.{Core, core, Keeps, then, select-core, sync-keeps, rise-synced-keeps, pins-synced-keeps, falling-keeps}
@@ -244,7 +239,7 @@ module _ (b : Bma150) (h : Sound (core (b .sensor))) where
   unfolding spi-write spi-listens
   spi-selected u mosi a v e = go (u .frame .selected) e
     where
-      go : (b : Bool) → cond ((b && (not (is-dead u) && not (is-quiet u))) && not (u .frame .turnaround)) (F.take-bit (u .frame) mosi (four-wire u) .write) Write.Nothing ≡ Write.Register a v → b ≡ true
+      go : (b : Bool) → cond ((b && (not (serial-not-ready u) && not (is-quiet u))) && not (u .frame .turnaround)) (F.take-bit (u .frame) mosi (four-wire u) .write) Write.Nothing ≡ Write.Register a v → b ≡ true
       go true f = refl
       go false f = cc
 
@@ -259,7 +254,7 @@ module _ (b : Bma150) (h : Sound (core (b .sensor))) where
   unfolding i2c-write i2c-listens
   i2c-live u k x a v e = sym (ap (λ (y : Core). off y) (k .same)) ∙ go (u .frame .selected) (is-off u) e
     where
-      go : (b o : Bool) → cond (not b && (not o && not (is-dead u))) (action-write (E.step (u .i2c) x (is-quiet u) (ones-for (u .frame .tx)) .action)) Write.Nothing ≡ Write.Register a v → o ≡ false
+      go : (b o : Bool) → cond (not b && (not o && not (serial-not-ready u))) (action-write (E.step (u .i2c) x (is-quiet u) (ones-for (u .frame .tx)) .action)) Write.Nothing ≡ Write.Register a v → o ≡ false
       go true o f = cc
       go false true f = cc
       go false false f = refl

@@ -1,4 +1,4 @@
--- Demand 3, over the definitions. Assumes nothing.
+-- Demand 3, over the definitions.
 use Prim.Native.Nat.{ℕ}
 use mathlib.Core.Path.{_≡_}
 use mathlib.Core.List.{List, [], _∷_, _++_}
@@ -12,15 +12,15 @@ use Rattle.runs.specs.Lists.{Start, started, after, answers, kept, Retur
 use Rattle.runs.specs.Book.{opened, booked}
 
 -- a list and the supply call that ends it
-abbrev pub ending : List Call → Time → ℕ → List Call
+abbrev pub ending : (cs : List Call) (now : Time) (rail : ℕ) → List Call
 ending cs now rail = cs ++ (Call.At now (Timed.Supply rail) ∷ [])
 
 -- the sensor right after it
-abbrev pub left : Start → List Call → Time → ℕ → Bma150
+abbrev pub left : Start → (cs : List Call) (now : Time) (rail : ℕ) → Bma150
 left b cs now rail = after (started b) (ending cs now rail)
 
 -- 01: stored bytes are those the stored-image call hands out right after it, at its time
-abbrev pub stored-bytes : Start → List Call → Time → ℕ → Added
+abbrev pub stored-bytes : Start → (cs : List Call) (now : Time) (rail : ℕ) → Added
 stored-bytes b cs now rail = called (left b cs now rail) (Call.StoredImage now 19) .adds
 
 pub record Claim : Type 0 where

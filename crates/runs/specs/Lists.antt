@@ -1,12 +1,13 @@
--- Lists of calls after a start (01, "Runs and the write book"): what they leave, answer and keep. Assumes nothing.
+-- Lists of calls after a start (01, "Runs and the write book"): what they leave, answer and keep.
 use Prim.Native.Nat.{ℕ, _^_, _<_}
 use mathlib.Core.Path.{_≡_}
-use mathlib.Core.Bool.{Bool, true, false, cond, _||_}
+use mathlib.Core.Bool.{Bool, true, false, _||_}
 use mathlib.Core.List.{List, [], _∷_}
 use mathlib.Core.Option.{Option, none, some}
 use lib.Dec.{leb, eqb}
 use lib.IntN.{ℤ}
 use lib.Signed.{mag}
+use Rattle.laws.specs.Notation.{if_then_else_}
 use Rattle.time.specs.declared.Time.{Time}
 use Rattle.spi.specs.declared.types.Drive.{Drive}
 use Rattle.deadlines.specs.declared.Deadline.{Deadline}
@@ -15,7 +16,7 @@ use Rattle.calls.specs.declared.types.Timed.the-variants as Timed
 use Rattle.calls.specs.declared.types.Call.{Call}
 use Rattle.calls.specs.declared.types.Call.the-variants as Call
 use Rattle.sensor.specs.declared.types.Kept.{Kept}
-use Rattle.sensor.specs.Image.{still}
+use Rattle.sensor.specs.Image.{new-kept}
 use Rattle.writes.specs.Samples.{interaction-deadline}
 use Rattle.bma150.specs.declared.host.Bma150.{Bma150}
 use Rattle.bma150.specs.Called.{Added, number, called, start-number, after-start, interrupt, output, data-output}
@@ -101,27 +102,27 @@ answers s (c ∷ cs) = answer s c ∷ answers (step s c) cs
 -- the calls of a list that are accepted
 unfoldable pub accepted : Bma150 → List Call → List Call
 accepted s [] = []
-accepted s (c ∷ cs) = cond (accepts s c) (c ∷ accepted (step s c) cs) (accepted (step s c) cs)
+accepted s (c ∷ cs) = if accepts s c then c ∷ accepted (step s c) cs else accepted (step s c) cs
 
 -- ---- 01: supply comes back from 0 mV; over accepted calls
 
 -- one of 0 since the last one of 2400 or more, or since the start
-unfoldable pub zeroed : Bool → Option ℕ → Bool
+unfoldable pub zeroed : (before : Bool) → Option ℕ → Bool
 zeroed before none = before
-zeroed before (some rail) = cond (leb 2400 rail) false (eqb rail 0 || before)
+zeroed before (some rail) = if leb 2400 rail then false else eqb rail 0 || before
 
-unfoldable pub met-zero : Bool → List Call → Bool
+unfoldable pub met-zero : (before : Bool) → List Call → Bool
 met-zero before [] = before
 met-zero before (c ∷ cs) = met-zero (zeroed before (does c .rail)) cs
 
 -- ---- 01: what is kept is what an accepted call last set, else the start's; over accepted calls
 
-unfoldable pub last-kept : Kept → List Call → Kept
+unfoldable pub last-kept : (before : Kept) → List Call → Kept
 last-kept before [] = before
 last-kept before (c ∷ cs) = last-kept (does c .keeps before) cs
 
-abbrev pub kept : Start → List Call → Kept
-kept b cs = last-kept still (accepted (started b) cs)
+abbrev pub kept : Start → (cs : List Call) → Kept
+kept b cs = last-kept new-kept (accepted (started b) cs)
 
 -- ---- the arguments are of their declared types, the start is accepted, and a list cs is followed by an accepted supply call at `now` that comes back from 0 mV
 pub record Returns (b : Start) (cs : List Call) (now : Time) (rail : ℕ) : Type 0 where

@@ -1,4 +1,4 @@
--- Demand 3 over replies: a run whose every step is one that a relation allows. For the code the relation is the functions' own contracts. Assumes nothing.
+-- Demand 3 over replies: a run whose every step is one that a relation allows. For the code the relation is the functions' own contracts.
 use Prim.Native.Nat.{ℕ}
 use mathlib.Core.Path.{_≡_}
 use mathlib.Core.List.{List, [], _∷_}

@@ -1,2 +1,2 @@
 pub mod Phase
-pub mod Apart
+pub mod Split

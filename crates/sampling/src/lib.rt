@@ -1,4 +1,4 @@
 // Sample phases (devices/bma150.rs: `sample_phase` and the loop of `sync_local_until`).
-mod apart;
 pub mod phase;
+mod split;
 pub mod types;

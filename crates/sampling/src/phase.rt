@@ -7,11 +7,11 @@ ghost use lib.IntN.{ℤ};
 ghost use Prim.Native.Nat.{_<_, _≤_, _+_, min};
 ghost use Rattle.registers.specs.Map.{wake-up};
 ghost use Rattle.control.specs.Waits.{acquisition-cycles};
-ghost use Rattle.sampling.specs.Apart as Apart;
+ghost use Rattle.sampling.specs.Split as Split;
 ghost use Rattle.sampling.specs.Phase as P;
-use crate::types::Conversion;
+use crate::types::Acquisition;
+use crate::types::AcquisitionScalars;
 use crate::types::Input;
-use crate::types::Rest;
 use crate::types::Sampling;
 use crate::types::Test;
 use control::waits::acquisition_cycles;
@@ -36,8 +36,8 @@ use registers::fields::WAKE_UP;
 use registers::fields::has;
 use registers::fields::range;
 
-fn sampled(input: Input, axis: u8) -> i32
-    ensures { λ r. ⌜ r ≡ P.sampled input axis ⌝ }
+fn axis_input(input: Input, axis: u8) -> i32
+    ensures { λ r. ⌜ r ≡ P.axis-input input axis ⌝ }
 {
     if axis == 0 {
         return input.x;
@@ -59,7 +59,7 @@ fn converted(registers: &[u8; 62], input: Input, axis: u8) -> i16
     let low = registers[OFFSET_LSB + a];
     let high = registers[OFFSET_MSB + a];
     code(
-        sampled(input, axis) as i64,
+        axis_input(input, axis) as i64,
         offset(low, high),
         range(registers[MEASUREMENT]),
     )
@@ -167,12 +167,12 @@ impl Sampling {
 fn measured(
     registers: &mut [u8; 62],
     history: &mut [i16; 192],
-    t: Rest,
+    t: AcquisitionScalars,
     input: Input,
     axis: u8,
-) -> Rest
+) -> AcquisitionScalars
     requires { ⌜ axis < 3 ⌝ }
-    ensures { λ r. ⌜ Apart.joined (now (registers .exit)) (now (history .exit)) r ≡ P.measured (Apart.joined (now (registers .entry)) (now (history .entry)) t) input axis ⌝ }
+    ensures { λ r. ⌜ Split.joined (now (registers .exit)) (now (history .exit)) r ≡ P.measured (Split.joined (now (registers .entry)) (now (history .entry)) t) input axis ⌝ }
 {
     let a = axis as usize;
     let places = t.places;
@@ -193,8 +193,8 @@ fn measured(
 }
 
 // The scan is complete: it is counted, and observed for motion.
-fn scanned(registers: &[u8; 62], t: Rest, needs: [u8; 4]) -> Rest
-    ensures { λ r. ⌜ ((h : List ℤ) → Apart.joined (now (registers .entry)) h r ≡ P.observed (P.counted (Apart.joined (now (registers .entry)) h t)) needs) ⌝ }
+fn scanned(registers: &[u8; 62], t: AcquisitionScalars, needs: [u8; 4]) -> AcquisitionScalars
+    ensures { λ r. ⌜ ((h : List ℤ) → Split.joined (now (registers .entry)) h r ≡ P.observed (P.counted (Split.joined (now (registers .entry)) h t)) needs) ⌝ }
 {
     let r = *registers;
     let operation = r[OPERATION];
@@ -212,8 +212,8 @@ fn scanned(registers: &[u8; 62], t: Rest, needs: [u8; 4]) -> Rest
     u
 }
 
-fn test_ended(registers: &mut [u8; 62], t: Rest) -> Rest
-    ensures { λ r. ⌜ ((h : List ℤ) → Apart.joined (now (registers .exit)) h r ≡ P.test-ended (Apart.joined (now (registers .entry)) h t)) ⌝ }
+fn test_ended(registers: &mut [u8; 62], t: AcquisitionScalars) -> AcquisitionScalars
+    ensures { λ r. ⌜ ((h : List ℤ) → Split.joined (now (registers .exit)) h r ≡ P.test-ended (Split.joined (now (registers .entry)) h t)) ⌝ }
 {
     let control = registers[CONTROL] & 0xfb;
     let status = registers[STATUS] | 0x80;
@@ -225,13 +225,13 @@ fn test_ended(registers: &mut [u8; 62], t: Rest) -> Rest
 fn axis_phase(
     registers: &mut [u8; 62],
     history: &mut [i16; 192],
-    t: Rest,
+    t: AcquisitionScalars,
     input: Input,
     phase: u8,
     needs: [u8; 4],
-) -> Rest
+) -> AcquisitionScalars
     requires { ⌜ (0 < phase) × (phase < 4) ⌝ }
-    ensures { λ r. ⌜ Apart.joined (now (registers .exit)) (now (history .exit)) r ≡ P.axis-phase (t .test) (Apart.joined (now (registers .entry)) (now (history .entry)) t) input phase needs ⌝ }
+    ensures { λ r. ⌜ Split.joined (now (registers .exit)) (now (history .exit)) r ≡ P.axis-phase (t .test) (Split.joined (now (registers .entry)) (now (history .entry)) t) input phase needs ⌝ }
 {
     let test = t.test;
     match test {
@@ -257,11 +257,11 @@ fn axis_phase(
 fn sample_phase(
     registers: &mut [u8; 62],
     history: &mut [i16; 192],
-    t: Rest,
+    t: AcquisitionScalars,
     input: Input,
     needs: [u8; 4],
-) -> Rest
-    ensures { λ r. ⌜ Apart.joined (now (registers .exit)) (now (history .exit)) r ≡ P.sample-phase (Apart.joined (now (registers .entry)) (now (history .entry)) t) input needs ⌝ }
+) -> AcquisitionScalars
+    ensures { λ r. ⌜ Split.joined (now (registers .exit)) (now (history .exit)) r ≡ P.sample-phase (Split.joined (now (registers .entry)) (now (history .entry)) t) input needs ⌝ }
 {
     let clock = t.clock;
     let test = t.test;
@@ -275,8 +275,8 @@ fn sample_phase(
 }
 
 // A millisecond passes at every twelfth edge.
-fn ticked(registers: &[u8; 62], t: Rest) -> Rest
-    ensures { λ r. ⌜ ((h : List ℤ) → Apart.joined (now (registers .entry)) h r ≡ P.ticked (Apart.joined (now (registers .entry)) h t)) ⌝ }
+fn ticked(registers: &[u8; 62], t: AcquisitionScalars) -> AcquisitionScalars
+    ensures { λ r. ⌜ ((h : List ℤ) → Split.joined (now (registers .entry)) h r ≡ P.ticked (Split.joined (now (registers .entry)) h t)) ⌝ }
 {
     let clock = t.clock;
     if clock.ordinal % 12 == 0 {
@@ -296,11 +296,11 @@ fn ticked(registers: &[u8; 62], t: Rest) -> Rest
 fn sample(
     registers: &mut [u8; 62],
     history: &mut [i16; 192],
-    t: Rest,
+    t: AcquisitionScalars,
     input: Input,
     needs: [u8; 4],
-) -> Rest
-    ensures { λ r. ⌜ Apart.joined (now (registers .exit)) (now (history .exit)) r ≡ P.sample input needs (Apart.joined (now (registers .entry)) (now (history .entry)) t) ⌝ }
+) -> AcquisitionScalars
+    ensures { λ r. ⌜ Split.joined (now (registers .exit)) (now (history .exit)) r ≡ P.sample input needs (Split.joined (now (registers .entry)) (now (history .entry)) t) ⌝ }
 {
     let clock = t.clock;
     let mut u = t;
@@ -309,16 +309,16 @@ fn sample(
     ticked(registers, v)
 }
 
-impl Conversion {
-    // So many edges.
-    pub fn samples(self, n: u64, input: Input, needs: [u8; 4]) -> Conversion
+impl Acquisition {
+    // The phases of n edges, one after the other.
+    pub fn samples(self, n: u64, input: Input, needs: [u8; 4]) -> Acquisition
         ensures { λ r. ⌜ r ≡ P.samples n self input needs ⌝ }
     {
         let s = self.sampling;
         let f = s.filter;
         let mut registers = self.registers;
         let mut history = f.history();
-        let mut t = self.rest();
+        let mut t = self.scalars();
         for _ in 0..n {
             let u = sample(&mut registers, &mut history, t, input, needs);
             t = u;

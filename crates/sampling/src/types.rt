@@ -1,6 +1,6 @@
-// What conversion needs and changes.
+// What a sample phase needs and changes.
 use filter::Filter;
-use filter::Places;
+use filter::RingState;
 use interrupts::Interrupts;
 use time::Clock;
 
@@ -29,15 +29,15 @@ pub struct Sampling {
 }
 
 // The part of the sensor that a sample phase changes.
-pub struct Conversion {
+pub struct Acquisition {
     pub registers: [u8; 62],
     pub sampling: Sampling,
     pub interrupts: Interrupts,
 }
 
-// A conversion without its registers and its filter's history, which are lent beside it.
-pub(crate) struct Rest {
-    pub(crate) places: Places,
+// An acquisition without its registers and its filter's history, which are lent beside it.
+pub(crate) struct AcquisitionScalars {
+    pub(crate) places: RingState,
     pub(crate) filtered: [i16; 3],
     pub(crate) clock: Clock,
     pub(crate) asleep: bool,

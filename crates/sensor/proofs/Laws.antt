@@ -1,4 +1,4 @@
--- Addresses of stored cells, and a list pasted one element further. Assumes nothing.
+-- Addresses of stored cells, and a list pasted one element further.
 use mathlib.Core.Path.{_≡_}
 use mathlib.Core.Bool.{true}
 use mathlib.Core.List.{List}

@@ -1,14 +1,15 @@
--- The stored image, the working image, and a sensor at its start. Assumes nothing.
+-- The stored image, the working image, and a sensor at its start.
 use Prim.Native.Nat.{ℕ, _-_}
-use mathlib.Core.Bool.{false, cond}
+use mathlib.Core.Bool.{false}
 use mathlib.Core.List.{List, [], _∷_}
 use lib.ListN.{getD, set, replicate}
 use lib.Seq.{paste}
 use lib.IntN.{pos}
+use Rattle.laws.specs.Notation.{if_then_else_, Byte, Address, Image, Registers}
 use Rattle.time.specs.declared.Time.{Time}
 use Rattle.time.specs.Time.{plus, from-millis}
 use Rattle.time.specs.Clock as Clock
-use Rattle.nv.specs.Cell.{cell-of}
+use Rattle.nv.specs.Cell.{cell-number}
 use Rattle.nv.specs.Cycle.{byte-at}
 use Rattle.filter.specs.Filter.{made, selected}
 use Rattle.interrupts.specs.State as I
@@ -32,28 +33,28 @@ use Rattle.sensor.specs.Record.{with-registers, with-reads, with-samplin
 
 -- ---- stored cells: addresses 2b..3d in order; there is none elsewhere
 
-unfoldable pub cell : List ℕ → ℕ → ℕ
-cell image address = cond (stored address) (getD image (address - 0x2b) 0) 0
+unfoldable pub cell-byte : (image : Image) (address : Address) → ℕ
+cell-byte image address = if stored address then getD image (address - 0x2b) 0 else 0
 
-unfoldable pub with-cell : List ℕ → ℕ → ℕ → List ℕ
-with-cell image address value = cond (stored address) (set image (address - 0x2b) value) image
+unfoldable pub with-cell : (image : Image) (address : Address) (value : Byte) → List ℕ
+with-cell image address value = if stored address then set image (address - 0x2b) value else image
 
 -- the stored bytes at a moment: a running write shows in its cell (`nonvolatile`)
-unfoldable pub image-at : Operation → List ℕ → Time → List ℕ
+unfoldable pub image-at : Operation → (image : Image) (now : Time) → List ℕ
 image-at Operation.Idle image now = image
-image-at (Operation.Running w address value) image now = with-cell image address (byte-at w (cell image address) value (cell-of address) now)
+image-at (Operation.Running w address value) image now = with-cell image address (byte-at w (cell-byte image address) value (cell-number address) now)
 
-abbrev pub nonvolatile : Sensor → Time → List ℕ
+abbrev pub nonvolatile : Sensor → (now : Time) → List ℕ
 nonvolatile s now = image-at (s .writing .operation) (s .nonvolatile) now
 
 -- ---- the image copied into the registers 0b..1d (`copy_image`)
 
-abbrev pub image-copied : List ℕ → List ℕ → List ℕ
+abbrev pub image-copied : (registers : Registers) (image : Image) → List ℕ
 image-copied registers image = paste registers 0x0b image 19
 
 -- held pairs are released where shadow_dis is set
-unfoldable pub shadowing : Reads → ℕ → Reads
-shadowing r byte = cond (shadow-dis byte) (R.released r) r
+unfoldable pub shadowing : Reads → (byte : Byte) → Reads
+shadowing r byte = if shadow-dis byte then R.released r else r
 
 -- the registers are these: the bandwidth, the durations and the held pairs follow them
 abbrev pub configured : Sensor → List ℕ → Sensor
@@ -72,18 +73,18 @@ abbrev pub reset-registers : List ℕ
 reset-registers = set (set (replicate 62 0) chip-id 2) version 0x10
 
 -- the start's acceleration 0, 0, 1000000 and temperature 20000 (the Rust's `STILL` and `new`)
-abbrev pub still : Kept
-still = record { input = record { x = pos 0; y = pos 0; z = pos 1000000; «temperature_millicelsius» = pos 20000 } }
+abbrev pub new-kept : Kept
+new-kept = record { input = record { x = pos 0; y = pos 0; z = pos 1000000; «temperature_millicelsius» = pos 20000 } }
 
-abbrev pub fresh-sampling : Time → Sampling
+abbrev pub fresh-sampling : (now : Time) → Sampling
 fresh-sampling now = record { filter = made 6; filtered = replicate 3 (pos 0); clock = Clock.started now; asleep = false; «auto_cycles» = 0; test = Test.Off; «data_ready» = false }
 
 -- 3 ms to the first scan
-abbrev pub acquiring : Time → Deadlines
+abbrev pub acquiring : (now : Time) → Deadlines
 acquiring now = with-wake never (At (plus now (acquisition-delay (from-millis 3))))
 
 -- a sensor that has just got supply, before its image is copied
-abbrev pub blank : Time → List ℕ → Kept → Sensor
+abbrev pub blank : (now : Time) (image : Image) (kept : Kept) → Sensor
 blank now image kept = record {
   registers = reset-registers;
   nonvolatile = image;
@@ -99,18 +100,18 @@ blank now image kept = record {
 }
 
 -- a start with these stored bytes (`from_nonvolatile`; with the stock image `new`)
-abbrev pub from-nonvolatile : Time → List ℕ → Sensor
-from-nonvolatile now image = copy-image (blank now image still)
+abbrev pub from-nonvolatile : (now : Time) (image : Image) → Sensor
+from-nonvolatile now image = copy-image (blank now image new-kept)
 
 -- 01: the stock image
 abbrev pub stock : List ℕ
 stock = 3 ∷ 20 ∷ 150 ∷ 160 ∷ 150 ∷ 0 ∷ 0 ∷ 162 ∷ 13 ∷ 14 ∷ 128 ∷ 0 ∷ 0 ∷ 0 ∷ 0 ∷ 128 ∷ 128 ∷ 128 ∷ 0 ∷ []
 
 -- 01: having met 0 mV the sensor returns as after a start from its stored bytes, with acceleration and temperature kept and serial pins dead for 3 ms; a function of the moment, the stored bytes and what is kept
-abbrev pub powered : Time → List ℕ → Kept → Sensor
+abbrev pub powered : (now : Time) (image : Image) (kept : Kept) → Sensor
 powered now image kept =
     let s = copy-image (blank now image kept) in
     with-deadlines s (with-serial-ready (s .deadlines) (At (plus now (from-millis 3))))
 
-abbrev pub power-on : Sensor → Time → Sensor
+abbrev pub power-on : Sensor → (now : Time) → Sensor
 power-on s now = powered now (s .nonvolatile) (s .kept)

@@ -1,5 +1,5 @@
 pub mod Record
 pub mod Image
 pub mod Mode
-pub mod Bytes
+pub mod RegisterReads
 pub mod Select

@@ -1,8 +1,9 @@
--- Acquisition, pauses, automatic mode, soft reset. Assumes nothing.
+-- Acquisition, pauses, automatic mode, soft reset.
 use Prim.Native.Nat.{ℕ}
-use mathlib.Core.Bool.{Bool, true, false, cond, _&&_, _||_}
+use mathlib.Core.Bool.{Bool, true, false, _&&_, _||_}
 use lib.ListN.{replicate}
 use lib.IntN.{pos}
+use Rattle.laws.specs.Notation.{if_then_else_}
 use Rattle.time.specs.declared.Time.{Time}
 use Rattle.time.specs.declared.Duration.{Duration}
 use Rattle.time.specs.Time.{plus, from-millis, from-micros}
@@ -17,6 +18,7 @@ use Rattle.deadlines.specs.declared.Deadline.{Deadline}
 use Rattle.deadlines.specs.declared.Deadline.the-variants.{At, Never}
 use Rattle.deadlines.specs.Deadlines.{is-set, with-wake, with-pause, with-quiet, with-irq-hold, with-image}
 use Rattle.control.specs.Waits.{acquisition-delay, pauses, pause-length}
+use Rattle.control.specs.declared.automatic.Activity.{Activity}
 use Rattle.control.specs.Automatic.{holds, pauses-again, may-pause}
 use Rattle.registers.specs.Map.{at, measurement, operation, bandwidth, latch-INT, wake-up-pause, new-data-INT}
 use Rattle.sampling.specs.declared.types.Test.the-variants as Test
@@ -33,7 +35,7 @@ abbrev pub acquiring : Sampling → ℕ → Sampling
 acquiring g b = record { filter = made b; filtered = g .filtered; clock = g .clock; asleep = false; «auto_cycles» = 0; test = g .test; «data_ready» = g .«data_ready» }
 
 -- acquisition starts: samples begin so that the first scan is complete after `ready` (`start_acquisition`)
-abbrev pub start-acquisition : Sensor → Time → Duration → Sensor
+abbrev pub start-acquisition : Sensor → (now : Time) (ready : Duration) → Sensor
 start-acquisition s now ready =
     with-interrupts
     (with-reads
@@ -50,11 +52,11 @@ abbrev pub pause-of : Sensor → Duration
 pause-of s = pause-length (wake-up-pause (at (s .registers) operation)) pauses
 
 -- only automatic mode ends a pause by itself
-unfoldable pub pause-end : Sensor → Time → Deadline
-pause-end s now = cond (automatic s) (At (plus now (pause-of s))) Never
+unfoldable pub pause-end : Sensor → (now : Time) → Deadline
+pause-end s now = if automatic s then At (plus now (pause-of s)) else Never
 
 -- the sensor sleeps (`pause`)
-abbrev pub pause : Sensor → Time → Sensor
+abbrev pub pause : Sensor → (now : Time) → Sensor
 pause s now =
     with-frame
     (with-deadlines (with-sampling s (with-asleep (s .sampling) true)) (with-pause (with-wake (s .deadlines) Never) (pause-end s now)))
@@ -82,31 +84,42 @@ verifies s = verifying (s .interrupts) (s .registers)
 
 -- ---- automatic mode (`automatic_control`), in three steps
 
-unfoldable pub paused-again : Sensor → Time → Sensor
-paused-again s now = cond (pauses-again (s .sampling .asleep) (is-set (s .deadlines .pause))) (pause s now) s
+unfoldable pub pause-restarted : Sensor → (now : Time) → Sensor
+pause-restarted s now = if pauses-again (s .sampling .asleep) (is-set (s .deadlines .pause)) then pause s now else s
 
 -- 330 µs
-unfoldable pub held : Sensor → Time → Bool → Sensor
-held s now was-criterion =
-    cond (holds was-criterion (latch-INT (at (s .registers) operation)) (criterion s))
-    (with-deadlines s (with-irq-hold (s .deadlines) (At (plus now (from-micros 330)))))
-    s
+unfoldable pub interrupt-held : Sensor → (now : Time) (was-criterion : Bool) → Sensor
+interrupt-held s now was-criterion =
+    if holds was-criterion (latch-INT (at (s .registers) operation)) (criterion s)
+    then with-deadlines s (with-irq-hold (s .deadlines) (At (plus now (from-micros 330))))
+    else s
 
-unfoldable pub may-sleep : Sensor → Bool → Bool
-may-sleep s verify =
-    may-pause verify (s .sampling .asleep) (is-set (s .deadlines .wake)) (tests (s .sampling .test)) (is-copying s) (is-writing s)
-    (Phase.acquired (s .sampling)) (interrupt s) (verifies s)
+-- what the sensor is doing
+abbrev pub activity : Sensor → Activity
+activity s = record {
+  asleep = s .sampling .asleep;
+  waking = is-set (s .deadlines .wake);
+  testing = tests (s .sampling .test);
+  copying = is-copying s;
+  writing = is-writing s;
+  acquired = Phase.acquired (s .sampling);
+  interrupt = interrupt s;
+  verifying = verifies s;
+}
 
-unfoldable pub verified : Sensor → Time → Bool → Sensor
-verified s now verify = cond (may-sleep s verify) (pause s now) s
+abbrev pub may-sleep : Sensor → (verify : Bool) → Bool
+may-sleep s verify = may-pause verify (activity s)
+
+unfoldable pub pause-if-idle : Sensor → (now : Time) (verify : Bool) → Sensor
+pause-if-idle s now verify = if may-sleep s verify then pause s now else s
 
 -- outside automatic mode no hold and no pause runs
-abbrev pub manual : Sensor → Sensor
-manual s = with-deadlines s (with-pause (with-irq-hold (s .deadlines) Never) Never)
+abbrev pub automatic-off : Sensor → Sensor
+automatic-off s = with-deadlines s (with-pause (with-irq-hold (s .deadlines) Never) Never)
 
-unfoldable pub automatic-control : Sensor → Time → Bool → Bool → Sensor
+unfoldable pub automatic-control : Sensor → (now : Time) (was-criterion verify : Bool) → Sensor
 automatic-control s now was-criterion verify =
-    cond (automatic s) (verified (held (paused-again s now) now was-criterion) now verify) (manual s)
+    if automatic s then pause-if-idle (interrupt-held (pause-restarted s now) now was-criterion) now verify else automatic-off s
 
 -- ---- soft reset (`soft_reset`)
 
@@ -119,7 +132,7 @@ abbrev pub reloaded : Sensor → Sensor
 reloaded s = copy-image (with-interrupts (with-i2c (with-registers s reset-registers) E.default) I.new)
 
 -- quiet for 10 µs; an image copy and the hold are dropped, and the byte being sent
-abbrev pub quieted : Sensor → Time → Sensor
+abbrev pub quieted : Sensor → (now : Time) → Sensor
 quieted s now =
     with-frame
     (with-deadlines
@@ -128,8 +141,8 @@ quieted s now =
     (F.released (F.sending (s .frame) Sent.Nothing))
 
 -- ready after 30 ms from sleep, else after 1300 µs
-unfoldable pub reset-time : Bool → Duration
-reset-time asleep = cond asleep (from-millis 30) (from-micros 1300)
+unfoldable pub reset-time : (asleep : Bool) → Duration
+reset-time asleep = if asleep then from-millis 30 else from-micros 1300
 
-abbrev pub soft-reset : Sensor → Time → Sensor
+abbrev pub soft-reset : Sensor → (now : Time) → Sensor
 soft-reset s now = start-acquisition (quieted (reloaded s) now) now (reset-time (s .sampling .asleep))

@@ -1,8 +1,9 @@
--- The sensor record with one part replaced, and short views of it. Assumes nothing.
+-- The sensor record with one part replaced, and short views of it.
 use Prim.Native.Nat.{ℕ}
 use mathlib.Core.Bool.{Bool, true, false}
 use mathlib.Core.List.{List}
 use lib.ListN.{set}
+use Rattle.laws.specs.Notation.{Byte, Address, Registers}
 use Rattle.filter.specs.declared.Filter.{Filter}
 use Rattle.interrupts.specs.declared.Interrupts.{Interrupts}
 use Rattle.i2c.specs.declared.types.State.{State}
@@ -12,9 +13,11 @@ use Rattle.deadlines.specs.declared.Deadlines.{Deadlines}
 use Rattle.deadlines.specs.Deadlines.{is-set}
 use Rattle.sampling.specs.declared.types.Test.{Test}
 use Rattle.sampling.specs.declared.types.Test.the-variants as Test
+use Rattle.sampling.specs.declared.types.Input.{Input}
 use Rattle.sampling.specs.declared.types.Sampling.{Sampling}
 use Rattle.sampling.specs.Phase as Phase
-use Rattle.registers.specs.Map.{at, operation, SPI4}
+use Rattle.registers.specs.declared.access.Gate.{Gate}
+use Rattle.registers.specs.Map.{at, control, operation, SPI4}
 use Rattle.sensor.specs.declared.types.Operation.{Operation}
 use Rattle.sensor.specs.declared.types.Operation.the-variants as Operation
 use Rattle.sensor.specs.declared.types.Writing.{Writing}
@@ -57,12 +60,16 @@ with-interrupts s x = record { registers = s .registers; nonvolatile = s .nonvol
 abbrev pub with-supply : Sensor → Supply → Sensor
 with-supply s x = record { registers = s .registers; nonvolatile = s .nonvolatile; frame = s .frame; i2c = s .i2c; reads = s .reads; kept = s .kept; sampling = s .sampling; deadlines = s .deadlines; writing = s .writing; interrupts = s .interrupts; supply = x }
 
+-- what is kept, with another acceleration and temperature
+abbrev pub with-input : Kept → Input → Kept
+with-input k input = record { input = input }
+
 -- the registers with one byte replaced
-abbrev pub with-byte : List ℕ → ℕ → ℕ → List ℕ
+abbrev pub with-byte : (registers : Registers) (address : Address) (value : Byte) → List ℕ
 with-byte registers address value = set registers address value
 
 -- a register keeps a value
-abbrev pub put : Sensor → ℕ → ℕ → Sensor
+abbrev pub put : Sensor → (address : Address) (value : Byte) → Sensor
 put s address value = with-registers s (with-byte (s .registers) address value)
 
 -- ---- short views
@@ -72,8 +79,8 @@ abbrev pub is-off : Sensor → Bool
 is-off s = is-set (s .supply .«unpowered_since»)
 
 -- the serial pins are dead after a return from 0 mV
-abbrev pub is-dead : Sensor → Bool
-is-dead s = is-set (s .deadlines .«serial_ready»)
+abbrev pub serial-not-ready : Sensor → Bool
+serial-not-ready s = is-set (s .deadlines .«serial_ready»)
 
 -- quiet after a soft reset
 abbrev pub is-quiet : Sensor → Bool
@@ -98,6 +105,10 @@ runs (Operation.Running w a v) = true
 
 abbrev pub is-writing : Sensor → Bool
 is-writing s = runs (s .writing .operation)
+
+-- what a read or a write of a register meets
+abbrev pub gate : Sensor → Gate
+gate s = record { control = at (s .registers) control; quiet = is-quiet s; copying = is-copying s; asleep = s .sampling .asleep }
 
 -- a self test runs
 unfoldable pub tests : Test → Bool

@@ -28,8 +28,8 @@ use time::Clock;
 use time::Duration;
 use time::Time;
 
-pub fn cell(image: [u8; 19], address: u8) -> u8
-    ensures { λ r. ⌜ r ≡ Im.cell image address ⌝ }
+pub fn cell_byte(image: [u8; 19], address: u8) -> u8
+    ensures { λ r. ⌜ r ≡ Im.cell-byte image address ⌝ }
 {
     if stored(address) {
         return image[(address - 0x2b) as usize];
@@ -54,7 +54,7 @@ fn image_at(operation: Operation, image: [u8; 19], now: Time) -> [u8; 19]
     match operation {
         Operation::Idle => image,
         Operation::Running(w, address, value) => {
-            let old = cell(image, address);
+            let old = cell_byte(image, address);
             let byte = w.byte(old, value, 0x20000 + address as u32, now);
             with_cell(image, address, byte)
         }
@@ -141,6 +141,19 @@ fn acquiring(now: Time) -> Deadlines
     d.with_wake(Deadline::At(now.plus(length)))
 }
 
+// What a start keeps: 1 g on z, 20 degrees.
+fn new_kept() -> Kept
+    ensures { λ r. ⌜ r ≡ Im.new-kept ⌝ }
+{
+    let input = Input {
+        x: 0,
+        y: 0,
+        z: 1000000,
+        temperature_millicelsius: 20000,
+    };
+    Kept { input: input }
+}
+
 fn blank(now: Time, image: [u8; 19], kept: Kept) -> Sensor
     ensures { λ r. ⌜ r ≡ Im.blank now image kept ⌝ }
 {
@@ -215,13 +228,7 @@ impl Sensor {
     pub fn from_nonvolatile(now: Time, image: [u8; 19]) -> Sensor
         ensures { λ r. ⌜ r ≡ Im.from-nonvolatile now image ⌝ }
     {
-        let still = Input {
-            x: 0,
-            y: 0,
-            z: 1000000,
-            temperature_millicelsius: 20000,
-        };
-        let s = blank(now, image, Kept { input: still });
+        let s = blank(now, image, new_kept());
         s.copy_image()
     }
 

@@ -4,6 +4,7 @@ ghost use Rattle.sensor.specs.Mode as C;
 use crate::image::reset_registers;
 use crate::record::tests;
 use crate::types::Sensor;
+use control::automatic::Activity;
 use control::automatic::holds;
 use control::automatic::may_pause;
 use control::automatic::pauses_again;
@@ -139,8 +140,8 @@ impl Sensor {
         i.output(registers)
     }
 
-    fn paused_again(self, now: Time) -> Sensor
-        ensures { λ r. ⌜ r ≡ C.paused-again self now ⌝ }
+    fn pause_restarted(self, now: Time) -> Sensor
+        ensures { λ r. ⌜ r ≡ C.pause-restarted self now ⌝ }
     {
         let d = self.deadlines;
         let p = d.pause;
@@ -151,8 +152,8 @@ impl Sensor {
         self
     }
 
-    fn held(self, now: Time, was_criterion: bool) -> Sensor
-        ensures { λ r. ⌜ r ≡ C.held self now «was_criterion» ⌝ }
+    fn interrupt_held(self, now: Time, was_criterion: bool) -> Sensor
+        ensures { λ r. ⌜ r ≡ C.interrupt-held self now «was_criterion» ⌝ }
     {
         if holds(
             was_criterion,
@@ -175,28 +176,33 @@ impl Sensor {
         i.verifying(registers)
     }
 
-    fn may_sleep(self, verify: bool) -> bool
-        ensures { λ r. ⌜ r ≡ C.may-sleep self verify ⌝ }
+    fn activity(self) -> Activity
+        ensures { λ r. ⌜ r ≡ C.activity self ⌝ }
     {
         let d = self.deadlines;
         let wake = d.wake;
         let g = self.sampling;
         let test = g.test;
-        may_pause(
-            verify,
-            g.asleep,
-            wake.is_set(),
-            tests(test),
-            self.is_copying(),
-            self.is_writing(),
-            g.acquired(),
-            self.interrupt(),
-            self.verifying(),
-        )
+        Activity {
+            asleep: g.asleep,
+            waking: wake.is_set(),
+            testing: tests(test),
+            copying: self.is_copying(),
+            writing: self.is_writing(),
+            acquired: g.acquired(),
+            interrupt: self.interrupt(),
+            verifying: self.verifying(),
+        }
     }
 
-    fn verified(self, now: Time, verify: bool) -> Sensor
-        ensures { λ r. ⌜ r ≡ C.verified self now verify ⌝ }
+    fn may_sleep(self, verify: bool) -> bool
+        ensures { λ r. ⌜ r ≡ C.may-sleep self verify ⌝ }
+    {
+        may_pause(verify, self.activity())
+    }
+
+    fn pause_if_idle(self, now: Time, verify: bool) -> Sensor
+        ensures { λ r. ⌜ r ≡ C.pause-if-idle self now verify ⌝ }
     {
         if self.may_sleep(verify) {
             return self.pause(now);
@@ -204,8 +210,8 @@ impl Sensor {
         self
     }
 
-    fn manual(self) -> Sensor
-        ensures { λ r. ⌜ r ≡ C.manual self ⌝ }
+    fn automatic_off(self) -> Sensor
+        ensures { λ r. ⌜ r ≡ C.automatic-off self ⌝ }
     {
         let d = self.deadlines;
         let e = d.with_irq_hold(Deadline::Never);
@@ -218,11 +224,11 @@ impl Sensor {
         ensures { λ r. ⌜ r ≡ C.automatic-control self now «was_criterion» verify ⌝ }
     {
         if self.automatic() {
-            let a = self.paused_again(now);
-            let b = a.held(now, was_criterion);
-            return b.verified(now, verify);
+            let a = self.pause_restarted(now);
+            let b = a.interrupt_held(now, was_criterion);
+            return b.pause_if_idle(now, verify);
         }
-        self.manual()
+        self.automatic_off()
     }
 
     fn reloaded(self) -> Sensor

@@ -4,6 +4,8 @@ ghost use Rattle.sensor.specs.Record as Rec;
 ghost use Rattle.registers.specs.Map as Map;
 use crate::types::Operation;
 use crate::types::Sensor;
+use registers::access::Gate;
+use registers::fields::CONTROL;
 use registers::fields::OPERATION;
 use registers::fields::SPI4;
 use registers::fields::WAKE_UP;
@@ -70,8 +72,8 @@ impl Sensor {
         since.is_set()
     }
 
-    pub fn is_dead(self) -> bool
-        ensures { λ r. ⌜ r ≡ Rec.is-dead self ⌝ }
+    pub fn serial_not_ready(self) -> bool
+        ensures { λ r. ⌜ r ≡ Rec.serial-not-ready self ⌝ }
     {
         let deadlines = self.deadlines;
         let d = deadlines.serial_ready;
@@ -100,6 +102,19 @@ impl Sensor {
         let writing = self.writing;
         let operation = writing.operation;
         runs(operation)
+    }
+
+    // What a read or a write of a register meets.
+    pub fn gate(self) -> Gate
+        ensures { λ r. ⌜ r ≡ Rec.gate self ⌝ }
+    {
+        let g = self.sampling;
+        Gate {
+            control: self.registers[CONTROL],
+            quiet: self.is_quiet(),
+            copying: self.is_copying(),
+            asleep: g.asleep,
+        }
     }
 
     // Automatic mode.

@@ -23,7 +23,7 @@ pub fn i2c_listens(sensor: Sensor) -> bool
     if sensor.is_off() {
         return false;
     }
-    !sensor.is_dead()
+    !sensor.serial_not_ready()
 }
 
 pub fn ones_for(tx: Sent) -> u8
@@ -46,8 +46,8 @@ fn byte_dropped(sensor: Sensor) -> Sensor
     s
 }
 
-fn acknowledged(sensor: Sensor) -> Sensor
-    ensures { λ r. ⌜ r ≡ Z.acknowledged sensor ⌝ }
+fn acknowledge_begun(sensor: Sensor) -> Sensor
+    ensures { λ r. ⌜ r ≡ Z.acknowledge-begun sensor ⌝ }
 {
     let quiet = sensor.is_quiet();
     let mut s = sensor;
@@ -76,10 +76,10 @@ fn acted(sensor: Sensor, action: Action, now: Time) -> Sensor
         Action::Drop => byte_dropped(sensor),
         Action::Write(r, v) => {
             let s = write_register(sensor, r, v, now);
-            acknowledged(s)
+            acknowledge_begun(s)
         }
         Action::Launch(r) => launched(sensor.prepare_read(r)),
-        Action::Acknowledge(r) => sensor.acknowledge_read(r),
+        Action::ReadBegan(r) => sensor.read_began(r),
     }
 }
 

@@ -7,7 +7,7 @@ use spi::types::Drive;
 pub fn spi_drives(sensor: Sensor) -> bool
     ensures { λ r. ⌜ r ≡ Out.spi-drives sensor ⌝ }
 {
-    if sensor.is_dead() {
+    if sensor.serial_not_ready() {
         return false;
     }
     let f = sensor.frame;
@@ -45,7 +45,7 @@ pub fn i2c_holds(sensor: Sensor) -> bool
     if sensor.is_off() {
         return false;
     }
-    if sensor.is_dead() {
+    if sensor.serial_not_ready() {
         return false;
     }
     let i = sensor.i2c;

@@ -3,8 +3,8 @@ ghost use mathlib.Core.Path.{_≡_};
 ghost use Rattle.serial.specs.SpiEdges as Z;
 use sensor::types::Fetched;
 use sensor::types::Sensor;
-use spi::types::Acknowledged;
 use spi::types::Clocked;
+use spi::types::FirstBit;
 use spi::types::Shift;
 use spi::types::Taken;
 use spi::types::Write;
@@ -45,12 +45,12 @@ fn shift_output(sensor: Sensor, at: Clocked) -> Sensor
     moved(sensor, f.shifts(at, sensor.four_wire()))
 }
 
-fn first_bit(sensor: Sensor, a: Acknowledged) -> Sensor
-    ensures { λ r. ⌜ r ≡ Z.first-bit a sensor ⌝ }
+fn first_bit_taken(sensor: Sensor, a: FirstBit) -> Sensor
+    ensures { λ r. ⌜ r ≡ Z.first-bit-taken a sensor ⌝ }
 {
     match a {
-        Acknowledged::Nothing => sensor,
-        Acknowledged::Register(r) => sensor.acknowledge_read(r),
+        FirstBit::Nothing => sensor,
+        FirstBit::Register(r) => sensor.read_began(r),
     }
 }
 
@@ -77,7 +77,7 @@ fn bit_taken(sensor: Sensor, mosi: bool, now: Time) -> Sensor
     ensures { λ r. ⌜ r ≡ Z.bit-taken sensor mosi now ⌝ }
 {
     let f = sensor.frame;
-    let t = first_bit(sensor, f.acknowledges());
+    let t = first_bit_taken(sensor, f.first_bit());
     let g = t.frame;
     let taken = g.take_bit(mosi, t.four_wire());
     let u = bit_done(t, taken, now);
@@ -98,7 +98,7 @@ pub fn spi_listens(sensor: Sensor) -> bool
 {
     let f = sensor.frame;
     if f.selected {
-        if sensor.is_dead() {
+        if sensor.serial_not_ready() {
             return false;
         }
         return !sensor.is_quiet();
@@ -153,7 +153,7 @@ fn fall_synced(sensor: Sensor, now: Time) -> Sensor
 fn falling_effect(sensor: Sensor) -> Sensor
     ensures { λ r. ⌜ r ≡ Z.falling-effect sensor ⌝ }
 {
-    if sensor.is_dead() {
+    if sensor.serial_not_ready() {
         return sensor;
     }
     if sensor.is_off() {

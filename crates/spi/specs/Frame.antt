@@ -1,7 +1,8 @@
--- The SPI frame: address byte with the read bit, then one value, or bytes that move on. Assumes nothing.
+-- The SPI frame: address byte with the read bit, then one value, or bytes that move on.
 use Prim.Native.Nat.{ℕ, _+_, _-_, _%_}
-use mathlib.Core.Bool.{Bool, true, false, cond, not, _&&_, _||_}
+use mathlib.Core.Bool.{Bool, true, false, not, _&&_, _||_}
 use lib.Dec.{leb, ltb, eqb}
+use Rattle.laws.specs.Notation.{if_then_else_, Byte}
 use Rattle.laws.specs.Bytes.{sent-bit, shifted-in}
 use Rattle.spi.specs.declared.types.Serial.{Serial}
 use Rattle.spi.specs.declared.types.Serial.the-variants as S
@@ -12,8 +13,8 @@ use Rattle.spi.specs.declared.types.Sent.the-variants as T
 use Rattle.spi.specs.declared.types.Clocked.{Clocked}
 use Rattle.spi.specs.declared.types.Clocked.the-variants as C
 use Rattle.spi.specs.declared.types.Frame.{Frame}
-use Rattle.spi.specs.declared.types.Acknowledged.{Acknowledged}
-use Rattle.spi.specs.declared.types.Acknowledged.the-variants as K
+use Rattle.spi.specs.declared.types.FirstBit.{FirstBit}
+use Rattle.spi.specs.declared.types.FirstBit.the-variants as K
 use Rattle.spi.specs.declared.types.Write.{Write}
 use Rattle.spi.specs.declared.types.Write.the-variants as W
 use Rattle.spi.specs.declared.types.Taken.{Taken}
@@ -23,18 +24,18 @@ use Rattle.spi.specs.declared.types.Shift.the-variants as H
 -- ---- selecting
 
 -- a frame before its first bit: an address byte comes, nothing is sent
-abbrev pub fresh : Bool → Frame
+abbrev pub fresh : (selected : Bool) → Frame
 fresh selected = record { serial = S.Address; selected = selected; rx = 0; «rx_bits» = 0; tx = T.Nothing; «tx_bit» = 8; driven = D.Floating; turnaround = false }
 
 -- a change of the select pin drops the frame; without one nothing happens (`set_selected`)
-unfoldable pub differs : Bool → Bool → Bool
-differs was selected = cond was (not selected) selected
+unfoldable pub differs : (was selected : Bool) → Bool
+differs was selected = if was then not selected else selected
 
-abbrev pub changes : Frame → Bool → Bool
+abbrev pub changes : Frame → (selected : Bool) → Bool
 changes f selected = differs (f .selected) selected
 
-unfoldable pub select : Frame → Bool → Frame
-select f selected = cond (changes f selected) (fresh selected) f
+unfoldable pub select : Frame → (selected : Bool) → Frame
+select f selected = if changes f selected then fresh selected else f
 
 -- ---- a rise takes a bit
 
@@ -45,13 +46,13 @@ reads (S.Read a) = true
 reads (S.Write a) = false
 
 -- the first bit of a byte that is read notes the read (`acknowledge_read`)
-unfoldable pub acknowledges : Serial → ℕ → Acknowledged
-acknowledges S.Address bits = K.Nothing
-acknowledges (S.Read a) bits = cond (eqb bits 0) (K.Register a) K.Nothing
-acknowledges (S.Write a) bits = K.Nothing
+unfoldable pub first-bit : Serial → (bits : ℕ) → FirstBit
+first-bit S.Address bits = K.Nothing
+first-bit (S.Read a) bits = if eqb bits 0 then K.Register a else K.Nothing
+first-bit (S.Write a) bits = K.Nothing
 
 -- one of the first seven bits of a byte
-abbrev pub bit-taken : Frame → Bool → Frame
+abbrev pub bit-taken : Frame → (mosi : Bool) → Frame
 bit-taken f mosi = record {
   serial = f .serial;
   selected = f .selected;
@@ -64,7 +65,7 @@ bit-taken f mosi = record {
 }
 
 -- a byte is complete: the next one is that of `serial`
-abbrev pub next-byte : Frame → Serial → Frame
+abbrev pub next-byte : Frame → (serial : Serial) → Frame
 next-byte f serial = record {
   serial = serial;
   selected = f .selected;
@@ -77,7 +78,7 @@ next-byte f serial = record {
 }
 
 -- a register's byte is to be sent next, in three-wire mode after a turnaround
-abbrev pub next-read : Frame → ℕ → Bool → Frame
+abbrev pub next-read : Frame → (a : ℕ) (turnaround : Bool) → Frame
 next-read f a turnaround = record {
   serial = S.Read a;
   selected = f .selected;
@@ -90,23 +91,23 @@ next-read f a turnaround = record {
 }
 
 -- an address byte: bit 7 set reads, else writes; bits 6 to 0 are the register
-unfoldable pub addressed : Frame → ℕ → Bool → Frame
-addressed f byte four-wire = cond (ltb byte 128) (next-byte f (S.Write byte)) (next-read f (byte % 128) (not four-wire))
+unfoldable pub addressed : Frame → (byte : Byte) (four-wire : Bool) → Frame
+addressed f byte four-wire = if ltb byte 128 then next-byte f (S.Write byte) else next-read f (byte % 128) (not four-wire)
 
 -- the eighth bit: a write is done with its value byte, a read moves on modulo 128
-unfoldable pub completed : Serial → Frame → ℕ → Bool → Taken
+unfoldable pub completed : Serial → Frame → (byte : Byte) (four-wire : Bool) → Taken
 completed S.Address f byte four-wire = record { frame = addressed f byte four-wire; write = W.Nothing }
 completed (S.Read a) f byte four-wire = record { frame = next-read f ((a + 1) % 128) (f .turnaround); write = W.Nothing }
 completed (S.Write a) f byte four-wire = record { frame = next-byte f S.Address; write = W.Register a byte }
 
-unfoldable pub take-bit : Frame → Bool → Bool → Taken
+unfoldable pub take-bit : Frame → (mosi four-wire : Bool) → Taken
 take-bit f mosi four-wire =
-    cond (ltb (f .«rx_bits») 7) (record { frame = bit-taken f mosi; write = W.Nothing }) (completed (f .serial) f (shifted-in (f .rx) mosi) four-wire)
+    if ltb (f .«rx_bits») 7 then record { frame = bit-taken f mosi; write = W.Nothing } else completed (f .serial) f (shifted-in (f .rx) mosi) four-wire
 
 -- ---- the output
 
 -- when the output moves: in three-wire mode at a rise outside a turnaround, and at the turnaround's own; in four-wire mode at a fall
-unfoldable pub moves : Clocked → Bool → Bool → Bool
+unfoldable pub moves : Clocked → (four-wire turnaround : Bool) → Bool
 moves C.Rise four-wire turnaround = not four-wire && not turnaround
 moves C.Turnaround four-wire turnaround = true
 moves C.Fall four-wire turnaround = four-wire
@@ -114,11 +115,11 @@ moves C.Fall four-wire turnaround = four-wire
 -- before the first bit of a byte that is read its register is fetched
 unfoldable pub fetches : Serial → ℕ → Shift
 fetches S.Address n = H.Next
-fetches (S.Read a) n = cond (eqb n 0) (H.Fetch a) H.Next
+fetches (S.Read a) n = if eqb n 0 then H.Fetch a else H.Next
 fetches (S.Write a) n = H.Next
 
-unfoldable pub shifts : Frame → Clocked → Bool → Shift
-shifts f at four-wire = cond (moves at four-wire (f .turnaround)) (fetches (f .serial) (f .«tx_bit»)) H.Stay
+unfoldable pub shifts : Frame → (at : Clocked) (four-wire : Bool) → Shift
+shifts f at four-wire = if moves at four-wire (f .turnaround) then fetches (f .serial) (f .«tx_bit») else H.Stay
 
 -- the turnaround is over
 abbrev pub turned : Frame → Frame
@@ -126,15 +127,15 @@ turned f = record { serial = f .serial; selected = f .selected; rx = f .rx; «rx
 
 -- the pin shows the n-th bit of the byte being sent, most significant first, while selected
 unfoldable pub bit-drive : ℕ → ℕ → Drive
-bit-drive b n = cond (sent-bit b n) D.High D.Low
+bit-drive b n = if sent-bit b n then D.High else D.Low
 
-unfoldable pub level : Sent → Bool → ℕ → Drive
+unfoldable pub level : Sent → (selected : Bool) (n : ℕ) → Drive
 level T.Nothing selected n = D.Floating
-level (T.Byte b) selected n = cond (selected && ltb n 8) (bit-drive b n) D.Floating
+level (T.Byte b) selected n = if selected && ltb n 8 then bit-drive b n else D.Floating
 
 -- the place of the next bit, 8 past the last
 unfoldable pub next-bit : ℕ → ℕ
-next-bit n = cond (ltb n 8) (n + 1) 8
+next-bit n = if ltb n 8 then n + 1 else 8
 
 -- the driver is released (also by `pause`)
 abbrev pub released : Frame → Frame
@@ -150,7 +151,7 @@ released f = record {
 }
 
 -- the next bit of a byte is driven
-abbrev pub showing : Frame → Sent → Frame
+abbrev pub showing : Frame → (tx : Sent) → Frame
 showing f tx = record {
   serial = f .serial;
   selected = f .selected;
@@ -163,16 +164,16 @@ showing f tx = record {
 }
 
 -- the output moves on, with the byte now being sent (`shift_output`); outside a read it floats
-unfoldable pub moved : Serial → Frame → Sent → Frame
+unfoldable pub moved : Serial → Frame → (tx : Sent) → Frame
 moved S.Address f tx = released f
 moved (S.Read a) f tx = showing f tx
 moved (S.Write a) f tx = released f
 
-abbrev pub shifted : Frame → Sent → Frame
+abbrev pub shifted : Frame → (tx : Sent) → Frame
 shifted f tx = moved (f .serial) f tx
 
 -- the byte being sent is another, or none (I2C shares it)
-abbrev pub sending : Frame → Sent → Frame
+abbrev pub sending : Frame → (tx : Sent) → Frame
 sending f tx = record {
   serial = f .serial;
   selected = f .selected;
@@ -191,5 +192,5 @@ unfoldable pub consumes-at-rise : Frame → Bool
 consumes-at-rise f = f .turnaround || (leb 7 (f .«rx_bits») || (reads (f .serial) && eqb (f .«rx_bits») 0))
 
 -- a four-wire fall that fetches a byte
-unfoldable pub consumes-at-fall : Frame → Bool → Bool
+unfoldable pub consumes-at-fall : Frame → (four-wire : Bool) → Bool
 consumes-at-fall f four-wire = four-wire && (reads (f .serial) && eqb (f .«tx_bit») 0)

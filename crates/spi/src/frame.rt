@@ -2,9 +2,9 @@
 ghost use mathlib.Core.Path.{_≡_};
 ghost use Prim.Native.Nat.{_<_};
 ghost use Rattle.spi.specs.Frame as F;
-use crate::types::Acknowledged;
 use crate::types::Clocked;
 use crate::types::Drive;
+use crate::types::FirstBit;
 use crate::types::Frame;
 use crate::types::Sent;
 use crate::types::Serial;
@@ -34,18 +34,18 @@ fn reads(serial: Serial) -> bool
     }
 }
 
-fn acknowledged(serial: Serial, bits: u8) -> Acknowledged
-    ensures { λ r. ⌜ r ≡ F.acknowledges serial bits ⌝ }
+fn first_bit_of(serial: Serial, bits: u8) -> FirstBit
+    ensures { λ r. ⌜ r ≡ F.first-bit serial bits ⌝ }
 {
     match serial {
-        Serial::Address => Acknowledged::Nothing,
+        Serial::Address => FirstBit::Nothing,
         Serial::Read(a) => {
             if bits == 0 {
-                return Acknowledged::Register(a);
+                return FirstBit::Register(a);
             }
-            Acknowledged::Nothing
+            FirstBit::Nothing
         }
-        Serial::Write(_) => Acknowledged::Nothing,
+        Serial::Write(_) => FirstBit::Nothing,
     }
 }
 
@@ -148,11 +148,11 @@ impl Frame {
     }
 
     // The register whose read is noted at this rise.
-    pub fn acknowledges(self) -> Acknowledged
-        ensures { λ r. ⌜ r ≡ F.acknowledges (self .serial) (self .«rx_bits») ⌝ }
+    pub fn first_bit(self) -> FirstBit
+        ensures { λ r. ⌜ r ≡ F.first-bit (self .serial) (self .«rx_bits») ⌝ }
     {
         let serial = self.serial;
-        acknowledged(serial, self.rx_bits)
+        first_bit_of(serial, self.rx_bits)
     }
 
     fn bit_taken(self, mosi: bool) -> Frame

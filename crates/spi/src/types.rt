@@ -39,7 +39,7 @@ pub struct Frame {
 }
 
 // The register whose read is to be noted.
-pub enum Acknowledged {
+pub enum FirstBit {
     Nothing,
     Register(u8),
 }

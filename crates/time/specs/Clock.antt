@@ -1,4 +1,4 @@
--- The sensor's 12000 Hz clock. Assumes nothing.
+-- The sensor's 12000 Hz clock.
 use Prim.Native.Nat.{ℕ, _+_, _-_, _*_, _/_, _%_, _^_, min}
 use Rattle.time.specs.declared.Time.{Time}
 use Rattle.time.specs.declared.Clock.{Clock}
@@ -29,5 +29,5 @@ abbrev pub next : Clock → Time
 next c = last (advanced c 1)
 
 -- how many edges after the clock's last one lie strictly before a limit
-abbrev pub edges-before : Clock → Time → ℕ
+abbrev pub edges-before : Clock → (limit : Time) → ℕ
 edges-before c limit = min (2 ^ 64 - 1) ((12000 * (ticks limit - ticks (c .start)) - 1) / 2 ^ 64) - c .ordinal

@@ -1,4 +1,3 @@
 pub mod Time
 pub mod Clock
-pub mod Laws
-pub mod Edges
+pub mod Theorems

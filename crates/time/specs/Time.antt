@@ -1,4 +1,4 @@
--- Moments and lengths of time. A unit is 2^-64 s (01, "How the Rust is driven"). Assumes nothing.
+-- Moments and lengths of time. A unit is 2^-64 s (01, "How the Rust is driven").
 use Prim.Native.Nat.{ℕ, _+_, _-_, _*_, _/_, _%_, _^_, min}
 use mathlib.Core.Bool.{Bool}
 use lib.Dec.{ltb, eqb}
@@ -26,7 +26,7 @@ abbrev pub plus : Time → Duration → Time
 plus t d = time (ticks t + lasts d)
 
 -- the length from an earlier moment to t; none where that is later (`duration_since`)
-abbrev pub since : Time → Time → Duration
+abbrev pub since : Time → (earlier : Time) → Duration
 since t earlier = duration (ticks t - ticks earlier)
 
 -- one unit later, held to the last moment (the Rust's `saturating_add(1)`)
@@ -42,9 +42,9 @@ abbrev pub same : Time → Time → Bool
 same t u = eqb (ticks t) (ticks u)
 
 -- ms milliseconds, rounded down to units (`from_millis`)
-abbrev pub from-millis : ℕ → Duration
+abbrev pub from-millis : (ms : ℕ) → Duration
 from-millis ms = duration (ms * 2 ^ 64 / 1000)
 
 -- us microseconds, rounded down to units (01, `micros_raw`)
-abbrev pub from-micros : ℕ → Duration
+abbrev pub from-micros : (us : ℕ) → Duration
 from-micros us = duration (us * 2 ^ 64 / 1000000)

@@ -1,8 +1,8 @@
 // A due moment is served.
 ghost use mathlib.Core.Path.{_≡_};
 ghost use Rattle.waits.specs.Due as D;
-use crate::supply::settled;
-use crate::supply::silently;
+use crate::supply::without_report;
+use crate::supply::write_over;
 use crate::types::Report;
 use crate::types::Served;
 use deadlines::Deadline;
@@ -12,8 +12,8 @@ use sensor::types::Sensor;
 use time::Clock;
 use time::Duration;
 use time::Time;
+use writes::samples::after_edges;
 use writes::samples::next_sample;
-use writes::samples::sampled;
 
 // Automatic mode verifies at the end of a scan or of a hold.
 fn verifies(sample: bool, scan: bool, hold_ended: bool) -> bool
@@ -56,7 +56,7 @@ fn pause_ended(sensor: Sensor, now: Time) -> Sensor
 fn completed(sensor: Sensor, address: u8, value: u8) -> Served
     ensures { λ r. ⌜ r ≡ D.completed sensor address value ⌝ }
 {
-    let s = settled(sensor, address, value);
+    let s = write_over(sensor, address, value);
     let t = s.copy_image();
     Served {
         sensor: t,
@@ -68,13 +68,13 @@ fn write_ended(sensor: Sensor, operation: Operation, now: Time) -> Served
     ensures { λ r. ⌜ r ≡ D.write-ended operation sensor now ⌝ }
 {
     match operation {
-        Operation::Idle => silently(sensor),
+        Operation::Idle => without_report(sensor),
         Operation::Running(w, address, value) => {
             let end = w.deadline();
             if end.same(now) {
                 return completed(sensor, address, value);
             }
-            silently(sensor)
+            without_report(sensor)
         }
     }
 }
@@ -117,8 +117,8 @@ fn wake_ended(sensor: Sensor, now: Time) -> Sensor
 }
 
 // Whether a sample is at this moment.
-fn sample_is(sensor: Sensor, now: Time) -> bool
-    ensures { λ r. ⌜ r ≡ D.sample-is sensor now ⌝ }
+fn sample_due_now(sensor: Sensor, now: Time) -> bool
+    ensures { λ r. ⌜ r ≡ D.sample-due-now sensor now ⌝ }
 {
     let d = next_sample(sensor);
     d.is_at(now)
@@ -127,23 +127,23 @@ fn sample_is(sensor: Sensor, now: Time) -> bool
 fn sample_ended(sensor: Sensor, now: Time) -> Sensor
     ensures { λ r. ⌜ r ≡ D.sample-ended sensor now ⌝ }
 {
-    if sample_is(sensor, now) {
-        return sampled(sensor, 1);
+    if sample_due_now(sensor, now) {
+        return after_edges(sensor, 1);
     }
     sensor
 }
 
 // Whether the clock's last edge was the last of a scan.
-fn scan_is(sensor: Sensor) -> bool
-    ensures { λ r. ⌜ r ≡ D.scan-is sensor ⌝ }
+fn scan_complete(sensor: Sensor) -> bool
+    ensures { λ r. ⌜ r ≡ D.scan-complete sensor ⌝ }
 {
     let g = sensor.sampling;
     let c = g.clock;
     c.ordinal % 4 == 0
 }
 
-fn woken(sensor: Sensor, now: Time) -> Served
-    ensures { λ r. ⌜ r ≡ D.woken sensor now ⌝ }
+fn waits_served(sensor: Sensor, now: Time) -> Served
+    ensures { λ r. ⌜ r ≡ D.waits-served sensor now ⌝ }
 {
     let a = waits_ended(sensor, now);
     let p = pause_ended(a, now);
@@ -160,8 +160,8 @@ fn woken(sensor: Sensor, now: Time) -> Served
     }
 }
 
-fn hold_is(sensor: Sensor, now: Time) -> bool
-    ensures { λ r. ⌜ r ≡ D.hold-is sensor now ⌝ }
+fn hold_ends_now(sensor: Sensor, now: Time) -> bool
+    ensures { λ r. ⌜ r ≡ D.hold-ends-now sensor now ⌝ }
 {
     let d = sensor.deadlines;
     let hold = d.irq_hold;
@@ -173,7 +173,7 @@ fn sample_served(sensor: Sensor, now: Time, was_criterion: bool, hold_ended: boo
     ensures { λ r. ⌜ r ≡ D.sample-served sensor now «was_criterion» «hold_ended» ⌝ }
 {
     let s = sample_ended(sensor, now);
-    let verify = verifies(sample_is(sensor, now), scan_is(s), hold_ended);
+    let verify = verifies(sample_due_now(sensor, now), scan_complete(s), hold_ended);
     s.automatic_control(now, was_criterion, verify)
 }
 
@@ -181,8 +181,8 @@ pub fn at_deadline(sensor: Sensor, now: Time) -> Served
     ensures { λ r. ⌜ r ≡ D.at-deadline sensor now ⌝ }
 {
     let was = sensor.criterion();
-    let hold = hold_is(sensor, now);
-    let w = woken(sensor, now);
+    let hold = hold_ends_now(sensor, now);
+    let w = waits_served(sensor, now);
     let report = w.report;
     let t = w.sensor;
     let s = sample_served(t, now, was, hold);

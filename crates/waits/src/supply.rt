@@ -5,9 +5,8 @@ use crate::types::Report;
 use crate::types::Served;
 use deadlines::Deadline;
 use sampling::types::Input;
-use sensor::image::cell;
+use sensor::image::cell_byte;
 use sensor::image::with_cell;
-use sensor::types::Kept;
 use sensor::types::Operation;
 use sensor::types::Sensor;
 use sensor::types::Supply;
@@ -24,8 +23,8 @@ fn outage(since: Deadline, now: Time) -> Duration
     }
 }
 
-pub fn silently(sensor: Sensor) -> Served
-    ensures { λ r. ⌜ r ≡ Sup.silently sensor ⌝ }
+pub fn without_report(sensor: Sensor) -> Served
+    ensures { λ r. ⌜ r ≡ Sup.without-report sensor ⌝ }
 {
     Served {
         sensor: sensor,
@@ -34,8 +33,8 @@ pub fn silently(sensor: Sensor) -> Served
 }
 
 // A stored write is over: its cell holds this byte.
-pub fn settled(sensor: Sensor, address: u8, value: u8) -> Sensor
-    ensures { λ r. ⌜ r ≡ Sup.settled sensor address value ⌝ }
+pub fn write_over(sensor: Sensor, address: u8, value: u8) -> Sensor
+    ensures { λ r. ⌜ r ≡ Sup.write-over sensor address value ⌝ }
 {
     let image = sensor.nonvolatile;
     let stored = with_cell(image, address, value);
@@ -52,12 +51,12 @@ fn cut(sensor: Sensor, operation: Operation, now: Time) -> Served
     ensures { λ r. ⌜ r ≡ Sup.cut operation sensor now ⌝ }
 {
     match operation {
-        Operation::Idle => silently(sensor),
+        Operation::Idle => without_report(sensor),
         Operation::Running(w, address, value) => {
             let image = sensor.nonvolatile;
-            let old = cell(image, address);
+            let old = cell_byte(image, address);
             let byte = w.byte(old, value, 0x20000 + address as u32, now);
-            let s = settled(sensor, address, byte);
+            let s = write_over(sensor, address, byte);
             Served {
                 sensor: s,
                 report: Report::Cut(address, byte),
@@ -95,8 +94,8 @@ fn power_off(sensor: Sensor, now: Time, cold: bool) -> Served
     }
 }
 
-fn drained(sensor: Sensor, zero_volt: bool) -> Sensor
-    ensures { λ r. ⌜ r ≡ Sup.drained sensor «zero_volt» ⌝ }
+fn zero_while_off(sensor: Sensor, zero_volt: bool) -> Sensor
+    ensures { λ r. ⌜ r ≡ Sup.zero-while-off sensor «zero_volt» ⌝ }
 {
     if zero_volt {
         let v = sensor.supply;
@@ -112,8 +111,8 @@ fn drained(sensor: Sensor, zero_volt: bool) -> Sensor
     sensor
 }
 
-fn woken_again(sensor: Sensor, now: Time) -> Sensor
-    ensures { λ r. ⌜ r ≡ Sup.woken sensor now ⌝ }
+fn reacquired(sensor: Sensor, now: Time) -> Sensor
+    ensures { λ r. ⌜ r ≡ Sup.reacquired sensor now ⌝ }
 {
     let g = sensor.sampling;
     if g.asleep {
@@ -135,7 +134,7 @@ fn warm_return(sensor: Sensor, now: Time) -> Sensor
     let d = s.deadlines;
     s.deadlines = d.shifted(outage(since, now));
     s.supply = w;
-    woken_again(s, now)
+    reacquired(s, now)
 }
 
 fn returned(sensor: Sensor, now: Time) -> Sensor
@@ -148,18 +147,18 @@ fn returned(sensor: Sensor, now: Time) -> Sensor
     warm_return(sensor, now)
 }
 
-fn lowered(sensor: Sensor, zero_volt: bool, now: Time) -> Served
-    ensures { λ r. ⌜ r ≡ Sup.lowered sensor «zero_volt» now ⌝ }
+fn supply_low(sensor: Sensor, zero_volt: bool, now: Time) -> Served
+    ensures { λ r. ⌜ r ≡ Sup.supply-low sensor «zero_volt» now ⌝ }
 {
     if sensor.is_off() {
-        let s = drained(sensor, zero_volt);
-        return silently(s);
+        let s = zero_while_off(sensor, zero_volt);
+        return without_report(s);
     }
     power_off(sensor, now, zero_volt)
 }
 
-fn raised(sensor: Sensor, now: Time) -> Sensor
-    ensures { λ r. ⌜ r ≡ Sup.raised sensor now ⌝ }
+fn supply_ok(sensor: Sensor, now: Time) -> Sensor
+    ensures { λ r. ⌜ r ≡ Sup.supply-ok sensor now ⌝ }
 {
     if sensor.is_off() {
         return returned(sensor, now);
@@ -171,16 +170,16 @@ pub fn set_supply(sensor: Sensor, rail: u16, now: Time) -> Served
     ensures { λ r. ⌜ r ≡ Sup.set-supply sensor rail now ⌝ }
 {
     if rail < 2400 {
-        return lowered(sensor, rail == 0, now);
+        return supply_low(sensor, rail == 0, now);
     }
-    let s = raised(sensor, now);
-    silently(s)
+    let s = supply_ok(sensor, now);
+    without_report(s)
 }
 
 pub fn set_input(sensor: Sensor, x: i32, y: i32, z: i32) -> Sensor
     ensures { λ r. ⌜ r ≡ Sup.set-input sensor x y z ⌝ }
 {
-    let k = sensor.kept;
+    let mut k = sensor.kept;
     let i = k.input;
     let n = Input {
         x: x,
@@ -188,16 +187,16 @@ pub fn set_input(sensor: Sensor, x: i32, y: i32, z: i32) -> Sensor
         z: z,
         temperature_millicelsius: i.temperature_millicelsius,
     };
-    let m = Kept { input: n };
+    k.input = n;
     let mut s = sensor;
-    s.kept = m;
+    s.kept = k;
     s
 }
 
 pub fn set_temperature(sensor: Sensor, millicelsius: i32) -> Sensor
     ensures { λ r. ⌜ r ≡ Sup.set-temperature sensor millicelsius ⌝ }
 {
-    let k = sensor.kept;
+    let mut k = sensor.kept;
     let i = k.input;
     let n = Input {
         x: i.x,
@@ -205,8 +204,8 @@ pub fn set_temperature(sensor: Sensor, millicelsius: i32) -> Sensor
         z: i.z,
         temperature_millicelsius: millicelsius,
     };
-    let m = Kept { input: n };
+    k.input = n;
     let mut s = sensor;
-    s.kept = m;
+    s.kept = k;
     s
 }

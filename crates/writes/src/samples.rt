@@ -3,7 +3,7 @@ ghost use mathlib.Core.Path.{_≡_};
 ghost use Rattle.writes.specs.Samples as S;
 use control::waits::needs;
 use deadlines::Deadline;
-use sampling::types::Conversion;
+use sampling::types::Acquisition;
 use sensor::types::Operation;
 use sensor::types::Sensor;
 use time::Time;
@@ -80,16 +80,16 @@ pub fn interaction_deadline(sensor: Sensor) -> Deadline
     next_deadline(sensor, sensor.automatic())
 }
 
-// So many edges of the clock.
-pub fn sampled(sensor: Sensor, n: u64) -> Sensor
-    ensures { λ r. ⌜ r ≡ S.sampled sensor n ⌝ }
+// Advances the sample clock by n edges.
+pub fn after_edges(sensor: Sensor, n: u64) -> Sensor
+    ensures { λ r. ⌜ r ≡ S.after-edges sensor n ⌝ }
 {
     let registers = sensor.registers;
     let sampling = sensor.sampling;
     let interrupts = sensor.interrupts;
     let k = sensor.kept;
     let input = k.input;
-    let c = Conversion {
+    let c = Acquisition {
         registers: registers,
         sampling: sampling,
         interrupts: interrupts,
@@ -113,18 +113,18 @@ fn edges_until(sensor: Sensor, end: Time, inclusive: bool) -> u64
     c.edges_before(limit(end, inclusive))
 }
 
-fn advanced(sensor: Sensor, end: Time, n: u64) -> Sensor
-    ensures { λ r. ⌜ r ≡ S.advanced sensor end n ⌝ }
+fn caught_up(sensor: Sensor, end: Time, n: u64) -> Sensor
+    ensures { λ r. ⌜ r ≡ S.caught-up sensor end n ⌝ }
 {
     if n == 0 {
         return sensor;
     }
-    let s = sampled(sensor, n);
+    let s = after_edges(sensor, n);
     s.automatic_control(end, false, false)
 }
 
-fn lags(sensor: Sensor) -> bool
-    ensures { λ r. ⌜ r ≡ S.lags sensor ⌝ }
+fn samples_on_demand(sensor: Sensor) -> bool
+    ensures { λ r. ⌜ r ≡ S.samples-on-demand sensor ⌝ }
 {
     if sensor.automatic() {
         return false;
@@ -135,9 +135,9 @@ fn lags(sensor: Sensor) -> bool
 pub fn sync_local_until(sensor: Sensor, end: Time, inclusive: bool) -> Sensor
     ensures { λ r. ⌜ r ≡ S.sync-local-until sensor end inclusive ⌝ }
 {
-    if lags(sensor) {
+    if samples_on_demand(sensor) {
         let n = edges_until(sensor, end, inclusive);
-        return advanced(sensor, end, n);
+        return caught_up(sensor, end, n);
     }
     sensor
 }

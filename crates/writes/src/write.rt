@@ -3,14 +3,14 @@ ghost use mathlib.Core.Path.{_≡_};
 ghost use Rattle.writes.specs.Write as W;
 use control::types::SelfTest;
 use control::types::Sleep;
-use control::types::Written;
+use control::types::WriteKind;
 use control::writes::copies_image;
 use control::writes::kept;
+use control::writes::kind_of_write;
 use control::writes::resets_interrupts;
 use control::writes::self_test;
 use control::writes::sleep;
 use control::writes::turns_automatic;
-use control::writes::written;
 use deadlines::Deadline;
 use nv::WriteCycle;
 use registers::fields::CONTROL;
@@ -171,18 +171,18 @@ fn durations_written(sensor: Sensor, address: u8, value: u8) -> Sensor
     s
 }
 
-fn applied(sensor: Sensor, w: Written, address: u8, value: u8, now: Time) -> Sensor
-    ensures { λ r. ⌜ r ≡ W.applied w sensor address value now ⌝ }
+fn register_effect(sensor: Sensor, w: WriteKind, address: u8, value: u8, now: Time) -> Sensor
+    ensures { λ r. ⌜ r ≡ W.register-effect w sensor address value now ⌝ }
 {
     match w {
-        Written::Ignored => sensor,
-        Written::Stored => sensor,
-        Written::Reset => sensor.soft_reset(now),
-        Written::Control => control_written(sensor, value, now),
-        Written::Measurement => measurement_written(sensor, value),
-        Written::Operation => operation_written(sensor, value),
-        Written::Durations => durations_written(sensor, address, value),
-        Written::Plain => sensor.put(address, value),
+        WriteKind::Ignored => sensor,
+        WriteKind::Stored => sensor,
+        WriteKind::Reset => sensor.soft_reset(now),
+        WriteKind::Control => control_written(sensor, value, now),
+        WriteKind::Measurement => measurement_written(sensor, value),
+        WriteKind::Operation => operation_written(sensor, value),
+        WriteKind::Durations => durations_written(sensor, address, value),
+        WriteKind::Plain => sensor.put(address, value),
     }
 }
 
@@ -198,47 +198,44 @@ fn begun(sensor: Sensor, address: u8, value: u8, now: Time) -> Sensor
     s
 }
 
-fn followed(sensor: Sensor, w: Written, address: u8, value: u8, now: Time) -> Sensor
-    ensures { λ r. ⌜ r ≡ W.followed w sensor address value now ⌝ }
+fn then_automatic(sensor: Sensor, w: WriteKind, address: u8, value: u8, now: Time) -> Sensor
+    ensures { λ r. ⌜ r ≡ W.then-automatic w sensor address value now ⌝ }
 {
     let was = sensor.criterion();
-    let s = applied(sensor, w, address, value, now);
+    let s = register_effect(sensor, w, address, value, now);
     s.automatic_control(now, was, false)
 }
 
-fn taken(sensor: Sensor, w: Written, address: u8, value: u8, now: Time) -> Sensor
-    ensures { λ r. ⌜ r ≡ W.taken w sensor address value now ⌝ }
+fn write_effect(sensor: Sensor, w: WriteKind, address: u8, value: u8, now: Time) -> Sensor
+    ensures { λ r. ⌜ r ≡ W.write-effect w sensor address value now ⌝ }
 {
     match w {
-        Written::Ignored => sensor,
-        Written::Stored => begun(sensor, address, value, now),
-        Written::Reset => followed(sensor, Written::Reset, address, value, now),
-        Written::Control => followed(sensor, Written::Control, address, value, now),
-        Written::Measurement => followed(sensor, Written::Measurement, address, value, now),
-        Written::Operation => followed(sensor, Written::Operation, address, value, now),
-        Written::Durations => followed(sensor, Written::Durations, address, value, now),
-        Written::Plain => followed(sensor, Written::Plain, address, value, now),
+        WriteKind::Ignored => sensor,
+        WriteKind::Stored => begun(sensor, address, value, now),
+        WriteKind::Reset => then_automatic(sensor, WriteKind::Reset, address, value, now),
+        WriteKind::Control => then_automatic(sensor, WriteKind::Control, address, value, now),
+        WriteKind::Measurement => then_automatic(
+            sensor,
+            WriteKind::Measurement,
+            address,
+            value,
+            now,
+        ),
+        WriteKind::Operation => then_automatic(sensor, WriteKind::Operation, address, value, now),
+        WriteKind::Durations => then_automatic(sensor, WriteKind::Durations, address, value, now),
+        WriteKind::Plain => then_automatic(sensor, WriteKind::Plain, address, value, now),
     }
 }
 
-fn write_kind(sensor: Sensor, address: u8, value: u8) -> Written
+fn write_kind(sensor: Sensor, address: u8, value: u8) -> WriteKind
     ensures { λ r. ⌜ r ≡ W.write-kind sensor address value ⌝ }
 {
-    let g = sensor.sampling;
-    written(
-        address,
-        value,
-        sensor.registers[CONTROL],
-        sensor.is_quiet(),
-        sensor.is_copying(),
-        g.asleep,
-        sensor.is_writing(),
-    )
+    kind_of_write(address, value, sensor.gate(), sensor.is_writing())
 }
 
 pub fn write_register(sensor: Sensor, address: u8, value: u8, now: Time) -> Sensor
     ensures { λ r. ⌜ r ≡ W.write-register sensor address value now ⌝ }
 {
     let w = write_kind(sensor, address, value);
-    taken(sensor, w, address, value, now)
+    write_effect(sensor, w, address, value, now)
 }

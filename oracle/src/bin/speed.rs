@@ -11,7 +11,7 @@ use std::{
     process::{self, exit, Stdio},
 };
 
-const PROFILES: [&str; 3] = ["mixed", "i2c", "auto"];
+const PROFILES: [&str; 4] = ["mixed", "i2c", "spi", "auto"];
 const COMMANDS: u64 = 500_000;
 const GROWTH: [u64; 3] = [100_000, 200_000, 400_000];
 /// Seconds between the calls of a stream with long waits, and their number.

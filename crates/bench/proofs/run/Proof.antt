@@ -4,8 +4,9 @@ use mathlib.Core.Path.{refl, sym, _∙_}
 use mathlib.Core.Bool.{false}
 use Prim.Native.Nat.{_+_, _-_, _≤_, _<_}
 use lib.ListN.{length, drop, length-drop}
-use Rattle.bench.specs.Run.{advance}
-use Rattle.bench.specs.Block.{least, least-some, Upto, begun, went, finished, pace-short, pace-full, pace-stopped, stopped-turn}
+use Rattle.bench.specs.Theorems.Turns.{advance}
+use Rattle.bench.specs.Block.{least}
+use Rattle.bench.specs.Theorems.Blocks.{least-some, Upto, begun, went, finished, pace-short, pace-full, pace-stopped, stopped-turn}
 use Rattle.bench.proofs.run.Statement.{statement}
 use Rattle.bench.proofs.run.Tie as tie
 

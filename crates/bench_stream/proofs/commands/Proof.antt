@@ -1,7 +1,7 @@
 use native.Mathlib.Omega.{arith}
 use mathlib.Core.Path.{refl}
 use Prim.Native.Nat.{_+_, _≤_}
-use Rattle.bench_stream.specs.Loop.{within, blocked}
+use Rattle.bench_stream.specs.Theorems.Loop.{within, blocked}
 use borrow.Author.Needs.{needs}
 use Rattle.bench_stream.proofs.commands.Statement.{statement}
 use Rattle.bench_stream.proofs.commands.Tie as tie

@@ -1,4 +1,4 @@
-use Rattle.bench_stream.specs.Loop.{filled}
+use Rattle.bench_stream.specs.Theorems.Loop.{filled}
 use borrow.Author.Needs.{needs}
 use Rattle.bench_stream.proofs.more.Statement.{statement}
 use Rattle.bench_stream.proofs.more.Tie as tie

@@ -1,6 +1,7 @@
 use borrow.Author.Needs.{needs}
 use Prim.Native.Nat.{_≤_}
-use Rattle.bench_stream.specs.Loop.{History, between-of, from-first, first-bounds}
+use Rattle.bench_stream.specs.Loop.{History, between-of}
+use Rattle.bench_stream.specs.Theorems.Loop.{from-first, first-bounds}
 use Rattle.bench_stream.proofs.turns.Statement.{statement}
 use Rattle.bench_stream.proofs.turns.Tie as tie
 

@@ -1,4 +1,4 @@
--- What a reply adds, read off its values, is what the call adds. Assumes nothing.
+-- What a reply adds, read off its values, is what the call adds.
 use Prim.Native.Nat.{ℕ}
 use mathlib.Core.Path.{_≡_, refl, ap, _∙_}
 use mathlib.Core.Bool.{Bool, true, false, cond}
@@ -10,7 +10,7 @@ use Rattle.calls.specs.declared.types.Timed.the-variants as Timed
 use Rattle.calls.specs.declared.types.Call.the-variants as Call
 use Rattle.calls.specs.Table.{unless-refused}
 use Rattle.calls.specs.Theorems.Left.{accepted-is, view-accepted}
-use Rattle.sensor.specs.Bytes.{peek}
+use Rattle.sensor.specs.RegisterReads.{peek}
 use Rattle.writes.specs.Samples.{interaction-deadline}
 use Rattle.waits.specs.declared.types.Report.{Report}
 use Rattle.waits.specs.declared.types.Report.the-variants as Report

@@ -1,4 +1,4 @@
--- Demand 1 over the sensor and its calls: refused exactly if, and a refusal changes nothing. Assumes nothing.
+-- Demand 1 over the sensor and its calls: refused exactly if, and a refusal changes nothing.
 use Prim.Native.Nat.{ℕ, suc}
 use mathlib.Core.Path.{_≡_, ap, subst}
 use mathlib.Core.Bool.{false}

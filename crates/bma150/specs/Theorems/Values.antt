@@ -1,4 +1,4 @@
--- The values fix the answers. Assumes nothing.
+-- The values fix the answers.
 use Prim.Native.Nat.{ℕ}
 use mathlib.Core.Path.{_≡_, refl, ap}
 use mathlib.Core.List.{List}

@@ -1,11 +1,11 @@
--- A call gets number n exactly if n is that of the first fault of 01's table that is there, or 0 where there is none. Assumes nothing.
+-- A call gets number n exactly if n is that of the first fault of 01's table that is there, or 0 where there is none.
 use Prim.Native.Nat.{ℕ, _^_, _≤_, _<_}
 use native.Mathlib.Omega.{arith}
 use mathlib.Core.Path.{_≡_, refl, sym, ap, _∙_}
 use mathlib.Core.Bool.{Bool, true, false, not, _||_}
 use mathlib.Core.Logic.{_⊎_, inl, inr}
 use mathlib.Core.List.{List, [], _∷_}
-use lib.Dec.{leb, ltb, eqb}
+use lib.Dec.{ltb, eqb}
 use lib.IntN.{ℤ, pos, negsuc, natAbs}
 use borrow.Author.Tests.{leb-true, le-leb, ltb-true, lt-ltb, eqb-true, eq-eqb, ne-eqb}
 use Rattle.time.specs.declared.Time.{Time}
@@ -17,14 +17,6 @@ use Rattle.calls.specs.declared.types.Timed.{Timed}
 use Rattle.calls.specs.declared.types.Timed.the-variants as Timed
 use Rattle.calls.specs.declared.types.Call.{Call}
 use Rattle.calls.specs.declared.types.Call.the-variants as Call
-use Rattle.calls.specs.declared.types.Kind.{Kind}
-use Rattle.calls.specs.declared.types.Kind.the-variants as Kind
-use Rattle.calls.specs.declared.types.Dated.{Dated}
-use Rattle.calls.specs.declared.types.Dated.the-variants as Dated
-use Rattle.calls.specs.declared.types.Bytes.{Bytes}
-use Rattle.calls.specs.declared.types.Bytes.the-variants as Bytes
-use Rattle.calls.specs.declared.types.Axes.{Axes}
-use Rattle.calls.specs.declared.types.Axes.the-variants as Axes
 use Rattle.calls.specs.Facts.{timed-facts, facts, bringing}
 use Rattle.calls.specs.Table.{wrong-length, beyond, any-beyond, out-of-range, late, too-late, goes-back, due-by, due-at, before-due, beside-due, rows, start-rows, refusal, start-refusal}
 use Rattle.calls.specs.Theorems.Found.{never, Fault, fault, First, Tells, Finds, found-first, first-is-found}
@@ -199,87 +191,40 @@ by-tells due now = record { only = by-only due now; whole = by-whole due now }
 not-at-tells : (due : Deadline) (now : Time) → Tells (DueAt due now → ⊥) (not (is-at due now))
 not-at-tells due now = record { only = not-only (is-at due now) (at-whole due now); whole = not-whole (is-at due now) (at-only due now) }
 
+axes-tell : (x y z : ℤ) → Tells (Beyond x ⊎ (Beyond y ⊎ Beyond z)) (any-beyond x y z)
+axes-tell x y z = record { only = axes-only x y z; whole = axes-whole x y z }
+
 module _ (last : Time) (due : Deadline) where
-  length-row : (c : Call) → Tells (WrongLength c) (wrong-length (facts c .bytes))
-  unfolding facts timed-facts wrong-length
-  length-row (Call.At now (Timed.Accelerations x y z)) = never-tells
-  length-row (Call.At now (Timed.Supply rail)) = never-tells
-  length-row (Call.At now Timed.Due) = never-tells
-  length-row (Call.At now (Timed.Rising mosi)) = never-tells
-  length-row (Call.At now Timed.Falling) = never-tells
-  length-row (Call.At now (Timed.Pins before after)) = never-tells
-  length-row (Call.Temperature x) = never-tells
-  length-row (Call.Select on) = never-tells
-  length-row (Call.View address) = never-tells
-  length-row (Call.StoredImage now n) = length-tells n
+  abbrev Found : Call → Type 0
+  Found c = Finds (record { last = last; due = due; call = facts c }) rows (faults last due c)
 
-  -- every timed call has its time
-  timed-time : (now : Time) (t : Timed) → timed-facts now t .time ≡ Dated.At now
-  unfolding timed-facts
-  timed-time now (Timed.Accelerations x y z) = refl
-  timed-time now (Timed.Supply rail) = refl
-  timed-time now Timed.Due = refl
-  timed-time now (Timed.Rising mosi) = refl
-  timed-time now Timed.Falling = refl
-  timed-time now (Timed.Pins before after) = refl
+  -- what the six tests find of a call
+  found : (c : Call)
+      → Tells (WrongLength c) (wrong-length (facts c .bytes))
+      → Tells (HasTime c (λ now. 2 ^ 32 ≤ now .0)) (too-late (facts c .time))
+      → Tells (HasTime c (λ now. ticks now < ticks last)) (goes-back last (facts c .time))
+      → Tells (IsTimed c (λ now t. AxisBeyond t)) (out-of-range (facts c .axes))
+      → Tells (IsTimed c (λ now t. DueFirst due now t)) (before-due due (facts c .kind) (facts c .time))
+      → Tells (IsTimed c (λ now t. NotDue due now t)) (beside-due due (facts c .kind) (facts c .time))
+      → Found c
+  found c length limit back axis due-first not-due = ((refl, length), ((refl, limit), ((refl, back), ((refl, axis), ((refl, due-first), ((refl, not-due), tt))))))
 
-  limit-row : (c : Call) → Tells (HasTime c (λ now. 2 ^ 32 ≤ now .0)) (too-late (facts c .time))
-  unfolding facts too-late
-  limit-row (Call.At now t) = rw (timed-time now t) (late-tells now)
-  limit-row (Call.Temperature x) = never-tells
-  limit-row (Call.Select on) = never-tells
-  limit-row (Call.View address) = never-tells
-  limit-row (Call.StoredImage now n) = late-tells now
+  timed-found : (now : Time) (t : Timed) → Found (Call.At now t)
+  unfolding facts timed-facts wrong-length too-late goes-back out-of-range before-due beside-due due-by due-at
+  timed-found now (Timed.Accelerations x y z) = found (Call.At now (Timed.Accelerations x y z)) never-tells (late-tells now) (back-tells last now) (axes-tell x y z) (by-tells due now) never-tells
+  timed-found now (Timed.Supply rail) = found (Call.At now (Timed.Supply rail)) never-tells (late-tells now) (back-tells last now) never-tells (by-tells due now) never-tells
+  timed-found now Timed.Due = found (Call.At now Timed.Due) never-tells (late-tells now) (back-tells last now) never-tells never-tells (not-at-tells due now)
+  timed-found now (Timed.Rising mosi) = found (Call.At now (Timed.Rising mosi)) never-tells (late-tells now) (back-tells last now) never-tells (by-tells due now) never-tells
+  timed-found now Timed.Falling = found (Call.At now Timed.Falling) never-tells (late-tells now) (back-tells last now) never-tells (by-tells due now) never-tells
+  timed-found now (Timed.Pins before after) = found (Call.At now (Timed.Pins before after)) never-tells (late-tells now) (back-tells last now) never-tells (by-tells due now) never-tells
 
-  back-row : (c : Call) → Tells (HasTime c (λ now. ticks now < ticks last)) (goes-back last (facts c .time))
-  unfolding facts goes-back
-  back-row (Call.At now t) = rw (timed-time now t) (back-tells last now)
-  back-row (Call.Temperature x) = never-tells
-  back-row (Call.Select on) = never-tells
-  back-row (Call.View address) = never-tells
-  back-row (Call.StoredImage now n) = back-tells last now
-
-  axis-row : (c : Call) → Tells (IsTimed c (λ now t. AxisBeyond t)) (out-of-range (facts c .axes))
-  unfolding facts timed-facts out-of-range
-  axis-row (Call.At now (Timed.Accelerations x y z)) = record { only = axes-only x y z; whole = axes-whole x y z }
-  axis-row (Call.At now (Timed.Supply rail)) = never-tells
-  axis-row (Call.At now Timed.Due) = never-tells
-  axis-row (Call.At now (Timed.Rising mosi)) = never-tells
-  axis-row (Call.At now Timed.Falling) = never-tells
-  axis-row (Call.At now (Timed.Pins before after)) = never-tells
-  axis-row (Call.Temperature x) = never-tells
-  axis-row (Call.Select on) = never-tells
-  axis-row (Call.View address) = never-tells
-  axis-row (Call.StoredImage now n) = never-tells
-
-  due-row : (c : Call) → Tells (IsTimed c (λ now t. DueFirst due now t)) (before-due due (facts c .kind) (facts c .time))
-  unfolding facts timed-facts before-due due-by
-  due-row (Call.At now (Timed.Accelerations x y z)) = by-tells due now
-  due-row (Call.At now (Timed.Supply rail)) = by-tells due now
-  due-row (Call.At now Timed.Due) = never-tells
-  due-row (Call.At now (Timed.Rising mosi)) = by-tells due now
-  due-row (Call.At now Timed.Falling) = by-tells due now
-  due-row (Call.At now (Timed.Pins before after)) = by-tells due now
-  due-row (Call.Temperature x) = never-tells
-  due-row (Call.Select on) = never-tells
-  due-row (Call.View address) = never-tells
-  due-row (Call.StoredImage now n) = never-tells
-
-  not-due-row : (c : Call) → Tells (IsTimed c (λ now t. NotDue due now t)) (beside-due due (facts c .kind) (facts c .time))
-  unfolding facts timed-facts beside-due due-at
-  not-due-row (Call.At now (Timed.Accelerations x y z)) = never-tells
-  not-due-row (Call.At now (Timed.Supply rail)) = never-tells
-  not-due-row (Call.At now Timed.Due) = not-at-tells due now
-  not-due-row (Call.At now (Timed.Rising mosi)) = never-tells
-  not-due-row (Call.At now Timed.Falling) = never-tells
-  not-due-row (Call.At now (Timed.Pins before after)) = never-tells
-  not-due-row (Call.Temperature x) = never-tells
-  not-due-row (Call.Select on) = never-tells
-  not-due-row (Call.View address) = never-tells
-  not-due-row (Call.StoredImage now n) = never-tells
-
-  finds : (c : Call) → Finds (record { last = last; due = due; call = facts c }) rows (faults last due c)
-  finds c = ((refl, length-row c), ((refl, limit-row c), ((refl, back-row c), ((refl, axis-row c), ((refl, due-row c), ((refl, not-due-row c), tt))))))
+  finds : (c : Call) → Found c
+  unfolding facts wrong-length too-late goes-back out-of-range before-due beside-due
+  finds (Call.At now t) = timed-found now t
+  finds (Call.Temperature x) = found (Call.Temperature x) never-tells never-tells never-tells never-tells never-tells never-tells
+  finds (Call.Select on) = found (Call.Select on) never-tells never-tells never-tells never-tells never-tells never-tells
+  finds (Call.View address) = found (Call.View address) never-tells never-tells never-tells never-tells never-tells never-tells
+  finds (Call.StoredImage now n) = found (Call.StoredImage now n) (length-tells n) (late-tells now) (back-tells last now) never-tells never-tells never-tells
 
   -- the number that a call gets is that of the first fault, or 0
   pub refused-only : (c : Call) → First (faults last due c) (refusal last due c)

@@ -1,4 +1,4 @@
--- The first row found, for any table. Assumes nothing.
+-- The first row found, for any table.
 use Prim.Native.Nat.{ℕ, _<_}
 use native.Mathlib.Omega.{arith}
 use mathlib.Core.Path.{_≡_, refl, sym, _∙_}

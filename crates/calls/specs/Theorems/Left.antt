@@ -1,5 +1,5 @@
--- What a refused and an accepted call leave, and what an accepted one has. Assumes nothing.
-use Prim.Native.Nat.{ℕ, _<_}
+-- What a refused and an accepted call leave, and what an accepted one has.
+use Prim.Native.Nat.{ℕ}
 use native.Mathlib.Omega.{arith}
 use mathlib.Core.Path.{_≡_, refl, sym}
 use mathlib.Core.Bool.{Bool, true, false, not}

@@ -1,4 +1,4 @@
--- The order of the refusals: read off the table, and computed on calls with several faults. Assumes nothing.
+-- The order of the refusals: read off the table, and computed on calls with several faults.
 use Prim.Native.Nat.{ℕ, _^_}
 use mathlib.Core.Path.{_≡_, refl}
 use mathlib.Core.List.{List, [], _∷_}
@@ -6,7 +6,6 @@ use mathlib.Core.Bool.{true}
 use lib.IntN.{ℤ, pos}
 use Rattle.time.specs.declared.Time.{Time}
 use Rattle.i2c.specs.declared.types.Levels.{Levels}
-use Rattle.deadlines.specs.declared.Deadline.{Deadline}
 use Rattle.deadlines.specs.declared.Deadline.the-variants.{At, Never}
 use Rattle.deadlines.specs.Deadlines.{is-at, is-by}
 use Rattle.calls.specs.declared.types.Timed.{Timed}

@@ -1,4 +1,4 @@
--- The number fixes what a call answers. Assumes nothing.
+-- The number fixes what a call answers.
 use Prim.Native.Nat.{ℕ}
 use mathlib.Core.Path.{_≡_, refl, sym, ap, _∙_}
 use mathlib.Core.Bool.{false, cond}

@@ -1,7 +1,7 @@
 use mir.Syntax.{w32}
 use mir.ValLaws.{toZ-ofZ}
 use Rattle.commands.specs.Decode.{accelerations}
-use Rattle.commands.specs.Laws.{there, missing, moment-drop, number-drop}
+use Rattle.commands.specs.Theorems.Laws.{there, missing, moment-drop, number-drop}
 use borrow.Author.Needs.{needs}
 use Rattle.commands.proofs.accelerations.Statement.{statement}
 use Rattle.commands.proofs.accelerations.Tie as tie

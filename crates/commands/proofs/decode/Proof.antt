@@ -3,7 +3,7 @@ use Prim.Native.Nat.{_-_, _<_, _≤_}
 use borrow.Author.Tests.{lt-ltb, le-ltb}
 use lib.ListN.{length, length-drop}
 use Rattle.commands.specs.Decode.{decoded}
-use Rattle.commands.specs.Laws.{head-drop}
+use Rattle.commands.specs.Theorems.Laws.{head-drop}
 use borrow.Author.Needs.{needs}
 use Rattle.commands.proofs.decode.Statement.{statement}
 use Rattle.commands.proofs.decode.Tie as tie

@@ -6,7 +6,7 @@ use native.Mathlib.Nat.{pow-le-pow-right}
 use lib.Pow.{pow-add}
 use lib.ListN.{length}
 use Rattle.commands.specs.Decode.{number-at}
-use Rattle.commands.specs.Laws.{number-none, number-more}
+use Rattle.commands.specs.Theorems.Laws.{number-none, number-more}
 use Rattle.commands.proofs.number.Statement.{statement}
 use Rattle.commands.proofs.number.Tie as tie
 

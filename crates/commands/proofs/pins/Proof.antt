@@ -4,7 +4,7 @@ use lib.ListN.{getD}
 use borrow.Author.Tests.{lt-ltb, le-ltb}
 use lib.Seq.{getD-drop}
 use Rattle.commands.specs.Decode.{pins}
-use Rattle.commands.specs.Laws.{there, missing, moment-drop}
+use Rattle.commands.specs.Theorems.Laws.{there, missing, moment-drop}
 use borrow.Author.Needs.{needs}
 use Rattle.commands.proofs.pins.Statement.{statement}
 use Rattle.commands.proofs.pins.Tie as tie

@@ -1,7 +1,7 @@
 use borrow.Author.Tests.{eq-eqb, ne-eqb}
 use lib.Seq.{getD-drop}
 use Rattle.commands.specs.Decode.{rising}
-use Rattle.commands.specs.Laws.{there, missing, moment-drop}
+use Rattle.commands.specs.Theorems.Laws.{there, missing, moment-drop}
 use borrow.Author.Needs.{needs}
 use Rattle.commands.proofs.rising.Statement.{statement}
 use Rattle.commands.proofs.rising.Tie as tie

@@ -1,7 +1,7 @@
 use borrow.Author.Tests.{eq-eqb, ne-eqb}
 use lib.Seq.{getD-drop}
 use Rattle.commands.specs.Decode.{select}
-use Rattle.commands.specs.Laws.{there, missing}
+use Rattle.commands.specs.Theorems.Laws.{there, missing}
 use borrow.Author.Needs.{needs}
 use Rattle.commands.proofs.select.Statement.{statement}
 use Rattle.commands.proofs.select.Tie as tie

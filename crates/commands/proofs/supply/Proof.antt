@@ -1,5 +1,5 @@
 use Rattle.commands.specs.Decode.{supply}
-use Rattle.commands.specs.Laws.{there, missing, moment-drop, number-drop}
+use Rattle.commands.specs.Theorems.Laws.{there, missing, moment-drop, number-drop}
 use borrow.Author.Needs.{needs}
 use Rattle.commands.proofs.supply.Statement.{statement}
 use Rattle.commands.proofs.supply.Tie as tie

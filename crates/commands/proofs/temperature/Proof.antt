@@ -1,7 +1,7 @@
 use mir.Syntax.{w32}
 use mir.ValLaws.{toZ-ofZ}
 use Rattle.commands.specs.Decode.{temperature}
-use Rattle.commands.specs.Laws.{there, missing, number-drop}
+use Rattle.commands.specs.Theorems.Laws.{there, missing, number-drop}
 use borrow.Author.Needs.{needs}
 use Rattle.commands.proofs.temperature.Statement.{statement}
 use Rattle.commands.proofs.temperature.Tie as tie

@@ -1,6 +1,6 @@
 use lib.Seq.{getD-drop}
 use Rattle.commands.specs.Decode.{view}
-use Rattle.commands.specs.Laws.{there, missing}
+use Rattle.commands.specs.Theorems.Laws.{there, missing}
 use borrow.Author.Needs.{needs}
 use Rattle.commands.proofs.view.Statement.{statement}
 use Rattle.commands.proofs.view.Tie as tie

@@ -1,4 +1,4 @@
--- Commands written out, and the greatest and least operands that fit. Assumes nothing.
+-- Commands written out, and the greatest and least operands that fit.
 use mathlib.Core.Path.{_≡_, refl}
 use mathlib.Core.Bool.{true, false}
 use mathlib.Core.List.{[], _∷_}

@@ -1,7 +1,7 @@
--- What is written as a command is read as that command. Assumes nothing.
-use mathlib.Core.Path.{_≡_, refl, sym, ap, _∙_}
+-- What is written as a command is read as that command.
+use mathlib.Core.Path.{_≡_, refl, ap, _∙_}
 use mathlib.Core.Bool.{Bool, true, false}
-use mathlib.Core.List.{List, [], _∷_, _++_}
+use mathlib.Core.List.{List, _∷_, _++_}
 use Prim.Native.Nat.{ℕ, zero, suc, _+_, _-_, _*_, _/_, _%_, _^_, _≤_, _<_}
 use native.Mathlib.Nat.{pow-suc, div-add-mod', mod-eq-of-lt}
 use native.Mathlib.Omega.{arith}
@@ -19,8 +19,8 @@ use Rattle.commands.specs.declared.Command.{Command}
 use Rattle.commands.specs.declared.Command.the-variants as Command
 use Rattle.commands.specs.Decode.{big, number-at, signed, moment-at, bit, timed, within, lines, start, image, accelerations, temperature, supply, due, select, rising, falling, pins, stored-image, view, decode-01-to-05, decode-06-to-0b, decoded, timed-size, call-size, size}
 use Rattle.commands.specs.Encode.{bytes, time-bytes, complement, lines-byte, timed-bytes, call-bytes, encoded, Time-fits, Signed-fits, Timed-fits, Call-fits, Fits}
-use Rattle.commands.specs.Laws.{big-more}
-use Rattle.commands.specs.More.{unknown}
+use Rattle.commands.specs.Theorems.Laws.{big-more}
+use Rattle.commands.specs.Theorems.More.{unknown}
 
 -- ---- operands
 

@@ -1,5 +1,5 @@
 use native.Mathlib.Omega.{arith}
-use Rattle.time.specs.Laws.{duration-at}
+use Rattle.time.specs.Theorems.Laws.{duration-at}
 use Rattle.time.specs.Clock.{edge-ticks}
 use borrow.Author.Needs.{needs}
 use Rattle.time.proofs.edge_offset.Statement.{statement}

@@ -3,7 +3,7 @@ use Rattle.laws.specs.Words.{pred-keeps, pred-borrows, pred-none}
 use mathlib.Core.Path.{_≡_}
 use Prim.Native.Nat.{_+_, _-_, _*_, _^_}
 use Rattle.time.specs.Time.{lasts}
-use Rattle.time.specs.Laws.{less-one}
+use Rattle.time.specs.Theorems.Laws.{less-one}
 use borrow.Author.Needs.{needs}
 use Rattle.time.proofs.edges_in.Statement.{statement}
 use Rattle.time.proofs.edges_in.Tie as tie

@@ -1,8 +1,8 @@
-use Rattle.time.specs.Laws.{held, not-held}
+use Rattle.time.specs.Theorems.Laws.{held, not-held}
 use Prim.Native.Nat.{_-_, _*_, _^_}
 use native.Mathlib.Omega.{arith}
 use lib.Dec.{lit<}
-use Rattle.time.specs.Laws.{seconds-div}
+use Rattle.time.specs.Theorems.Laws.{seconds-div}
 use borrow.Author.Needs.{needs}
 use Rattle.time.proofs.edges_up_to.Statement.{statement}
 use Rattle.time.proofs.edges_up_to.Tie as tie

@@ -1,6 +1,7 @@
 use native.Mathlib.Omega.{arith}
-use Rattle.bench.specs.Put.{none, _then_, says}
-use Rattle.bench.specs.Text.{image-text, length-hexes}
+use Rattle.bench.specs.Theorems.Put.{none, _then_, says}
+use Rattle.bench.specs.Text.{image-text}
+use Rattle.bench.specs.Theorems.Text.{length-hexes}
 use Rattle.bench.specs.Line.{extra-adds, added-text}
 use borrow.Author.Needs.{needs}
 use Rattle.bench.proofs.lines.put_extra.Statement.{statement}

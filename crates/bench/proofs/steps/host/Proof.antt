@@ -11,68 +11,46 @@ use Rattle.bench.specs.Line.{silent}
 use borrow.Author.Needs.{needs}
 use Rattle.bench.proofs.steps.host.Statement.{statement}
 use Rattle.bench.proofs.steps.host.Tie as tie
-use Rattle.bench.proofs.steps.host.Reads as reads
-use Rattle.bench.proofs.steps.host.Lts as lts
-use Rattle.bench.proofs.steps.silent.Reads as silent-reads
-use Rattle.bench.proofs.steps.stored_image.Reads as stored-image-reads
-use Rattle.bench.proofs.steps.timed.Reads as timed-reads
-use Rattle.bench.proofs.steps.view.Reads as view-reads
-use Rattle.bma150.proofs.host.Bma150.select.Reads as select-reads
-use Rattle.bma150.proofs.host.Bma150.temperature.Reads as temperature-reads
 
--- src/steps.rt:123:18
 enum-known-c : tie.Need-enum-known-c
 enum-known-c c = search needs
 
--- src/steps.rt:123:30
 timed-requires : tie.Need-timed-requires
 timed-requires c κs = search needs
 
--- src/steps.rt:124:27
 enum-known-c-2 : tie.Need-enum-known-c-2
 enum-known-c-2 c = search needs
 
--- src/steps.rt:124:40
 temperature-requires : tie.Need-temperature-requires
 temperature-requires c κs = search needs
 
--- src/steps.rt:124:33
 silent-requires : tie.Need-silent-requires
 silent-requires c κs = search needs
 
--- src/steps.rt:125:22
 enum-known-c-3 : tie.Need-enum-known-c-3
 enum-known-c-3 c = search needs
 
--- src/steps.rt:125:36
 select-requires : tie.Need-select-requires
 select-requires c κs = search needs
 
--- src/steps.rt:125:29
 silent-requires-2 : tie.Need-silent-requires-2
 silent-requires-2 c κs = search needs
 
--- src/steps.rt:126:20
 enum-known-c-4 : tie.Need-enum-known-c-4
 enum-known-c-4 c = search needs
 
--- src/steps.rt:126:32
 view-requires : tie.Need-view-requires
 view-requires c κs = search needs
 
--- src/steps.rt:127:27
 enum-known-c-5 : tie.Need-enum-known-c-5
 enum-known-c-5 c = search needs
 
--- src/steps.rt:127:36
 stored-image-requires : tie.Need-stored-image-requires
 stored-image-requires c κs = search needs
 
--- src/steps.rt:119:1
 returns : tie.Need-returns
 returns c = simp (c .timed .ensures, c .before .before .c .given .1)
 
--- src/steps.rt:119:1
 returns-2 : tie.Need-returns-2
 unfolding number
 returns-2 c =
@@ -84,16 +62,13 @@ returns-2 c =
     ∙ temperature-called s _
     ∙ ap (λ (x : ℤ). called s (Call.Temperature x)) (toZ-ofZ w32 z (record { sfits = c .before .before .known-told2 .given .0 .1 })))
 
--- src/steps.rt:119:1
 returns-3 : tie.Need-returns-3
 unfolding number
 returns-3 c = rw (c .before .before .before .c3 .given .1) (c .silent2 .ensures ∙ rw (c .before .select .ensures) (select-called _ _))
 
--- src/steps.rt:119:1
 returns-4 : tie.Need-returns-4
 returns-4 c = simp (c .view .ensures, c .before .before .c4 .given .1)
 
--- src/steps.rt:119:1
 returns-5 : tie.Need-returns-5
 returns-5 c = simp (c .stored-image .ensures, c .before .before .c5 .given .1)
 

@@ -1,55 +1,40 @@
 use Rattle.calls.specs.Table.{number, refusal-number}
-use mathlib.Core.Path.{_≡_}
 use native.Mathlib.Omega.{arith}
 use Prim.Native.Nat.{_-_, _≤_}
 use lib.ListN.{length, length-drop}
-use Rattle.commands.specs.More.{image-there}
+use Rattle.commands.specs.Theorems.More.{image-there}
 use Rattle.bench.specs.Line.{commanded}
-use mathlib.Core.Path.{refl, sym, _∙_}
+use mathlib.Core.Path.{sym, _∙_}
 use borrow.Author.Needs.{needs}
 use Rattle.bench.proofs.steps.serve.Statement.{statement}
 use Rattle.bench.proofs.steps.serve.Tie as tie
-use Rattle.bench.proofs.steps.serve.Reads as reads
-use Rattle.bench.proofs.steps.serve.Lts as lts
-use Rattle.bench.proofs.steps.host.Reads as host-reads
-use Rattle.bench.proofs.steps.silent.Reads as silent-reads
-use Rattle.bench.proofs.steps.start.Reads as start-reads
 
--- src/steps.rt:137:24
 enum-known-c : tie.Need-enum-known-c
 enum-known-c c = search needs
 
--- src/steps.rt:137:30
 start-requires : tie.Need-start-requires
 start-requires c κs = let h : 32 ≤ length (c .before .before .before .before .args .input .now) - c .before .before .before .before .args .at = rw (← length-drop (c .before .before .before .before .args .at) (c .before .before .before .before .args .input .now)) (image-there _ _ (sym (c .before .before .before .before .pre) ∙ c .before .c .given .1)) in omega arith
 
--- src/steps.rt:138:23
 enum-known-c-2 : tie.Need-enum-known-c-2
 enum-known-c-2 c = search needs
 
--- src/steps.rt:138:32
 host-requires : tie.Need-host-requires
 host-requires c κs = search needs
 
--- src/steps.rt:139:57
 enum-told : tie.Need-enum-told
 enum-told c = search needs
 
--- src/steps.rt:139:25
 silent-requires : tie.Need-silent-requires
 silent-requires c κs = search needs
 
--- src/steps.rt:132:1
 returns : tie.Need-returns
 unfolding commanded
 returns c = simp (c .start .ensures, c .before .before .c .given .1)
 
--- src/steps.rt:132:1
 returns-2 : tie.Need-returns-2
 unfolding commanded
 returns-2 c = simp (c .host .ensures, c .before .before .c2 .given .1)
 
--- src/steps.rt:132:1
 returns-3 : tie.Need-returns-3
 unfolding commanded number refusal-number
 returns-3 c = rw (c .before .enum-told .given .1) (c .silent .ensures)

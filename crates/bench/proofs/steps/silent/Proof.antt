@@ -1,11 +1,8 @@
 use Rattle.bench.specs.Line.{extra-adds}
-use mathlib.Core.Path.{refl, sym, _∙_}
+use mathlib.Core.Path.{refl}
 use Rattle.bench.proofs.steps.silent.Statement.{statement}
 use Rattle.bench.proofs.steps.silent.Tie as tie
-use Rattle.bench.proofs.steps.silent.Reads as reads
-use Rattle.bench.proofs.steps.silent.Lts as lts
 
--- src/steps.rt:24:1
 returns : tie.Need-returns
 unfolding extra-adds
 returns c = refl

@@ -9,54 +9,40 @@ use Rattle.commands.specs.Decode.{image}
 use Rattle.commands.specs.declared.Command.the-variants as Command
 use Rattle.calls.specs.Table.{number}
 use Rattle.bench.specs.Line.{commanded}
-use mathlib.Core.Path.{refl, sym, _∙_}
+use mathlib.Core.Path.{sym, _∙_}
 use borrow.Author.Needs.{needs}
 use Rattle.bench.proofs.steps.start.Statement.{statement}
 use Rattle.bench.proofs.steps.start.Tie as tie
-use Rattle.bench.proofs.steps.start.Reads as reads
-use Rattle.bench.proofs.steps.start.Lts as lts
-use Rattle.bench.proofs.steps.silent.Reads as silent-reads
-use Rattle.bma150.proofs.host.Bma150.start.Reads as start-reads
-use Rattle.calls.proofs.table.is_accepted.Reads as is-accepted-reads
 
 image-is : (at : ℕ) (l : List ℕ) → take (at + 32 - (at + 13)) (drop (at + 13) l) ≡ image (drop at l)
 image-is at l =
     let e : at + 32 - (at + 13) ≡ 19 = omega arith in
     rw (e, drop-drop 13 at l)
 
--- src/steps.rt:40:16
 add-from : tie.Need-add-from
 add-from c = search needs
 
--- src/steps.rt:41:14
 add-to : tie.Need-add-to
 add-to c = search needs
 
--- src/steps.rt:42:37
 sub-start : tie.Need-sub-start
 sub-start c = search needs
 
--- src/steps.rt:42:37
 part-start-start : tie.Need-part-start-start
 part-start-start c = search needs
 
--- src/steps.rt:42:37
 part-start-end : tie.Need-part-start-end
 part-start-end c = search needs
 
--- src/steps.rt:42:9
 start-requires : tie.Need-start-requires
 start-requires c κs = search needs
 
--- src/steps.rt:45:8
 is-accepted-requires : tie.Need-is-accepted-requires
 is-accepted-requires c κs = search needs
 
--- src/steps.rt:46:9
 silent-requires : tie.Need-silent-requires
 silent-requires c κs = search needs
 
--- src/steps.rt:46:9
 returns : tie.Need-returns
 returns c =
     let a = c .before .before .before .before .before .before .before .args in
@@ -65,11 +51,9 @@ returns c =
     ∙ start-accepted (a .sensor) _ (a .when) _ (number (c .before .before .before .before .start .result .outcome)) (e .0) (e .1) (sym (c .before .before .is-accepted .ensures) ∙ c .before .if1 .taken)
     ∙ ap (λ (i : List ℕ). commanded (a .sensor) (Command.Start (a .when)) i) (image-is (a .at) (a .input .now))
 
--- src/steps.rt:48:5
 silent-requires-2 : tie.Need-silent-requires-2
 silent-requires-2 c κs = search needs
 
--- src/steps.rt:36:1
 returns-2 : tie.Need-returns-2
 returns-2 c =
     let a = c .before .before .before .before .before .before .before .args in

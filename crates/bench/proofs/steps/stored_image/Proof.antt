@@ -4,43 +4,29 @@ use Rattle.bench.specs.declared.types.Extra.{Extra}
 use Rattle.bench.specs.declared.types.Extra.the-variants as Extra
 use Rattle.bench.specs.Line.{extra-adds}
 use mathlib.Core.Path.{ap}
-use mathlib.Core.List.{List}
 use Rattle.calls.specs.Table.{number, refusal-number, unless-refused}
-use Rattle.bma150.specs.Called.{Added}
 use Rattle.bma150.specs.Theorems.Added.{buffer-is, image-leaves}
-use mathlib.Core.Path.{refl, sym, _∙_}
-use borrow.Author.Tests.{eq-eqb, ne-eqb}
+use mathlib.Core.Path.{_∙_}
 use borrow.Author.Needs.{needs}
 use Rattle.bench.proofs.steps.stored_image.Statement.{statement}
 use Rattle.bench.proofs.steps.stored_image.Tie as tie
-use Rattle.bench.proofs.steps.stored_image.Reads as reads
-use Rattle.bench.proofs.steps.stored_image.Lts as lts
-use Rattle.bench.proofs.steps.silent.Reads as silent-reads
-use Rattle.bench.proofs.steps.unless_refused.Reads as unless-refused-reads
-use Rattle.bma150.proofs.host.Bma150.stored_image.Reads as stored-image-reads
 
--- src/steps.rt:107:9
 silent-requires : tie.Need-silent-requires
 silent-requires c κs = search needs
 
--- src/steps.rt:107:9
 returns : tie.Need-returns
 unfolding number refusal-number
 returns c = c .silent .ensures ∙ wrong-buffer _ _ _ (c .before .if1 .taken)
 
--- src/steps.rt:110:45
 slice-aggregate-stored-image : tie.Need-slice-aggregate-stored-image
 slice-aggregate-stored-image c = search needs
 
--- src/steps.rt:110:9
 stored-image-requires : tie.Need-stored-image-requires
 stored-image-requires c κs = search needs
 
--- src/steps.rt:114:16
 unless-refused-requires : tie.Need-unless-refused-requires
 unless-refused-requires c κs = search needs
 
--- src/steps.rt:103:1
 returns-2 : tie.Need-returns-2
 unfolding extra-adds
 returns-2 c =

@@ -1,35 +1,25 @@
 use Rattle.bench.proofs.Laws.{called-is, extra-unless}
 use mathlib.Core.Path.{ap}
-use mathlib.Core.List.{List}
 use lib.ListN.{replicate}
 use Rattle.calls.specs.Table.{number, unless-refused}
-use Rattle.bma150.specs.Called.{Added, timed-adds}
+use Rattle.bma150.specs.Called.{Added}
 use Rattle.bma150.specs.Theorems.Added.{reported-is}
 use Rattle.bench.specs.declared.types.Extra.{Extra}
 use Rattle.bench.specs.Line.{extra-adds}
-use mathlib.Core.Path.{refl, sym, _∙_}
+use mathlib.Core.Path.{_∙_}
 use borrow.Author.Needs.{needs}
 use Rattle.bench.proofs.steps.timed.Statement.{statement}
 use Rattle.bench.proofs.steps.timed.Tie as tie
-use Rattle.bench.proofs.steps.timed.Reads as reads
-use Rattle.bench.proofs.steps.timed.Lts as lts
-use Rattle.bench.proofs.steps.timed_extra.Reads as timed-extra-reads
-use Rattle.bench.proofs.steps.unless_refused.Reads as unless-refused-reads
-use Rattle.bma150.proofs.host.Bma150.timed.Reads as timed-reads
 
--- src/steps.rt:78:9
 timed-requires : tie.Need-timed-requires
 timed-requires c κs = search needs
 
--- src/steps.rt:85:40
 timed-extra-requires : tie.Need-timed-extra-requires
 timed-extra-requires c κs = search needs
 
--- src/steps.rt:85:16
 unless-refused-requires : tie.Need-unless-refused-requires
 unless-refused-requires c κs = search needs
 
--- src/steps.rt:75:1
 returns : tie.Need-returns
 returns c =
     let a = c .before .before .before .before .args in

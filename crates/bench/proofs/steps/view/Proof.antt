@@ -1,21 +1,16 @@
-use Rattle.bench.proofs.Laws.{called-is, extra-unless, wrong-buffer, temperature-called, select-called}
+use Rattle.bench.proofs.Laws.{called-is}
 use Rattle.bench.specs.Line.{extra-adds}
 use Rattle.calls.specs.Table.{number}
 use Rattle.calls.specs.Theorems.Left.{view-accepted}
 use Rattle.bma150.specs.Theorems.Added.{view-leaves}
-use mathlib.Core.Path.{refl, sym, _∙_}
+use mathlib.Core.Path.{sym}
 use borrow.Author.Needs.{needs}
 use Rattle.bench.proofs.steps.view.Statement.{statement}
 use Rattle.bench.proofs.steps.view.Tie as tie
-use Rattle.bench.proofs.steps.view.Reads as reads
-use Rattle.bench.proofs.steps.view.Lts as lts
-use Rattle.bma150.proofs.host.Bma150.view.Reads as view-reads
 
--- src/steps.rt:93:9
 view-requires : tie.Need-view-requires
 view-requires c κs = search needs
 
--- src/steps.rt:90:1
 returns : tie.Need-returns
 unfolding extra-adds number
 returns c =

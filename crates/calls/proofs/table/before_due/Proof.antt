@@ -1,39 +1,28 @@
 use Rattle.calls.specs.Table.{before-due}
-use mathlib.Core.Path.{refl, sym, _∙_}
 use borrow.Author.Needs.{needs}
 use Rattle.calls.proofs.table.before_due.Statement.{statement}
 use Rattle.calls.proofs.table.before_due.Tie as tie
-use Rattle.calls.proofs.table.before_due.Reads as reads
-use Rattle.calls.proofs.table.before_due.Lts as lts
-use Rattle.calls.proofs.table.due_by.Reads as due-by-reads
 
--- src/table.rt:179:24
 enum-told : tie.Need-enum-told
 enum-told c = search needs
 
--- src/table.rt:179:24
 due-by-requires : tie.Need-due-by-requires
 due-by-requires c κs = search needs
 
--- src/table.rt:180:22
 enum-told-2 : tie.Need-enum-told-2
 enum-told-2 c = search needs
 
--- src/table.rt:181:26
 enum-told-3 : tie.Need-enum-told-3
 enum-told-3 c = search needs
 
--- src/table.rt:175:1
 returns : tie.Need-returns
 unfolding before-due
 returns c = simp (c .due-by .ensures, c .before .enum-told .given .1)
 
--- src/table.rt:175:1
 returns-2 : tie.Need-returns-2
 unfolding before-due
 returns-2 c = simp (c .enum-told2 .given .1)
 
--- src/table.rt:175:1
 returns-3 : tie.Need-returns-3
 unfolding before-due
 returns-3 c = simp (c .enum-told3 .given .1)

@@ -1,39 +1,28 @@
 use Rattle.calls.specs.Table.{beside-due}
-use mathlib.Core.Path.{refl, sym, _∙_}
 use borrow.Author.Needs.{needs}
 use Rattle.calls.proofs.table.beside_due.Statement.{statement}
 use Rattle.calls.proofs.table.beside_due.Tie as tie
-use Rattle.calls.proofs.table.beside_due.Reads as reads
-use Rattle.calls.proofs.table.beside_due.Lts as lts
-use Rattle.calls.proofs.table.due_at.Reads as due-at-reads
 
--- src/table.rt:190:24
 enum-told : tie.Need-enum-told
 enum-told c = search needs
 
--- src/table.rt:191:23
 enum-told-2 : tie.Need-enum-told-2
 enum-told-2 c = search needs
 
--- src/table.rt:191:23
 due-at-requires : tie.Need-due-at-requires
 due-at-requires c κs = search needs
 
--- src/table.rt:192:26
 enum-told-3 : tie.Need-enum-told-3
 enum-told-3 c = search needs
 
--- src/table.rt:186:1
 returns : tie.Need-returns
 unfolding beside-due
 returns c = simp (c .enum-told .given .1)
 
--- src/table.rt:186:1
 returns-2 : tie.Need-returns-2
 unfolding beside-due
 returns-2 c = simp (c .due-at .ensures, c .before .enum-told2 .given .1)
 
--- src/table.rt:186:1
 returns-3 : tie.Need-returns-3
 unfolding beside-due
 returns-3 c = simp (c .enum-told3 .given .1)

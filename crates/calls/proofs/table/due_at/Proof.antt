@@ -1,30 +1,21 @@
 use Rattle.calls.specs.Table.{due-at}
-use mathlib.Core.Path.{refl, sym, _∙_}
 use borrow.Author.Needs.{needs}
 use Rattle.calls.proofs.table.due_at.Statement.{statement}
 use Rattle.calls.proofs.table.due_at.Tie as tie
-use Rattle.calls.proofs.table.due_at.Reads as reads
-use Rattle.calls.proofs.table.due_at.Lts as lts
-use Rattle.deadlines.proofs.Deadline.is_at.Reads as is-at-reads
 
--- src/table.rt:169:19
 enum-known-t : tie.Need-enum-known-t
 enum-known-t c = search needs
 
--- src/table.rt:169:27
 is-at-requires : tie.Need-is-at-requires
 is-at-requires c κs = search needs
 
--- src/table.rt:170:27
 enum-told : tie.Need-enum-told
 enum-told c = search needs
 
--- src/table.rt:165:1
 returns : tie.Need-returns
 unfolding due-at
 returns c = simp (c .is-at .ensures, c .before .before .t .given .1)
 
--- src/table.rt:165:1
 returns-2 : tie.Need-returns-2
 unfolding due-at
 returns-2 c = simp (c .enum-told .given .1)

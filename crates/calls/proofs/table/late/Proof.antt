@@ -1,11 +1,8 @@
 use Rattle.calls.specs.Table.{late}
-use mathlib.Core.Path.{refl, sym, _∙_}
+use mathlib.Core.Path.{refl}
 use Rattle.calls.proofs.table.late.Statement.{statement}
 use Rattle.calls.proofs.table.late.Tie as tie
-use Rattle.calls.proofs.table.late.Reads as reads
-use Rattle.calls.proofs.table.late.Lts as lts
 
--- src/table.rt:99:1
 returns : tie.Need-returns
 unfolding late
 returns c = refl

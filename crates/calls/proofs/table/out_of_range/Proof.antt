@@ -1,32 +1,23 @@
 use mir.Syntax.{w32}
 use mir.ValLaws.{toZ-ofZ}
 use Rattle.calls.specs.Table.{out-of-range}
-use mathlib.Core.Path.{refl, sym, _∙_}
 use borrow.Author.Needs.{needs}
 use Rattle.calls.proofs.table.out_of_range.Statement.{statement}
 use Rattle.calls.proofs.table.out_of_range.Tie as tie
-use Rattle.calls.proofs.table.out_of_range.Reads as reads
-use Rattle.calls.proofs.table.out_of_range.Lts as lts
-use Rattle.calls.proofs.table.any_beyond.Reads as any-beyond-reads
 
--- src/table.rt:151:19
 enum-known-a : tie.Need-enum-known-a
 enum-known-a c = search needs
 
--- src/table.rt:151:31
 any-beyond-requires : tie.Need-any-beyond-requires
 any-beyond-requires c κs = search needs
 
--- src/table.rt:152:24
 enum-told : tie.Need-enum-told
 enum-told c = search needs
 
--- src/table.rt:147:1
 returns : tie.Need-returns
 unfolding out-of-range
 returns c = rw (c .before .before .a .given .1) (rw (toZ-ofZ w32 (c .before .before .a .given .0 .0) (record { sfits = c .before .known-told .given .0 .1 }), toZ-ofZ w32 (c .before .before .a .given .0 .1 .0) (record { sfits = c .before .known-told .given .1 .0 .1 }), toZ-ofZ w32 (c .before .before .a .given .0 .1 .1 .0) (record { sfits = c .before .known-told .given .1 .1 .0 .1 })) at (c .any-beyond .ensures))
 
--- src/table.rt:147:1
 returns-2 : tie.Need-returns-2
 unfolding out-of-range
 returns-2 c = simp (c .enum-told .given .1)

@@ -1,78 +1,55 @@
 use Rattle.calls.specs.Table.{number}
 use Rattle.calls.specs.Table.{refusal, refusal-number, first-found}
-use mathlib.Core.Path.{refl, sym, _∙_}
+use mathlib.Core.Path.{sym, _∙_}
 use borrow.Author.Needs.{needs}
 use Rattle.calls.proofs.table.refusal.Statement.{statement}
 use Rattle.calls.proofs.table.refusal.Tie as tie
-use Rattle.calls.proofs.table.refusal.Reads as reads
-use Rattle.calls.proofs.table.refusal.Lts as lts
-use Rattle.calls.proofs.table.before_due.Reads as before-due-reads
-use Rattle.calls.proofs.table.beside_due.Reads as beside-due-reads
-use Rattle.calls.proofs.table.facts.Reads as facts-reads
-use Rattle.calls.proofs.table.goes_back.Reads as goes-back-reads
-use Rattle.calls.proofs.table.out_of_range.Reads as out-of-range-reads
-use Rattle.calls.proofs.table.too_late.Reads as too-late-reads
-use Rattle.calls.proofs.table.wrong_length.Reads as wrong-length-reads
 
--- src/table.rt:200:9
 facts-requires : tie.Need-facts-requires
 facts-requires c κs = search needs
 
--- src/table.rt:205:8
 wrong-length-requires : tie.Need-wrong-length-requires
 wrong-length-requires c κs = search needs
 
--- src/table.rt:206:9
 returns : tie.Need-returns
 unfolding number refusal refusal-number first-found
 returns c = rw (← c .before .before .facts .ensures, sym (c .before .wrong-length .ensures) ∙ c .if1 .taken)
 
--- src/table.rt:208:8
 too-late-requires : tie.Need-too-late-requires
 too-late-requires c κs = search needs
 
--- src/table.rt:209:9
 returns-2 : tie.Need-returns-2
 unfolding number refusal refusal-number first-found
 returns-2 c = rw (← c .before .before .before .before .facts .ensures, sym (c .before .too-late .ensures) ∙ c .if2 .taken, sym (c .before .before .before .wrong-length .ensures) ∙ c .before .before .if1 .left)
 
--- src/table.rt:211:8
 goes-back-requires : tie.Need-goes-back-requires
 goes-back-requires c κs = search needs
 
--- src/table.rt:212:9
 returns-3 : tie.Need-returns-3
 unfolding number refusal refusal-number first-found
 returns-3 c = rw (← c .before .before .before .before .before .before .facts .ensures, sym (c .before .goes-back .ensures) ∙ c .if3 .taken, sym (c .before .before .before .too-late .ensures) ∙ c .before .before .if2 .left, sym (c .before .before .before .before .before .wrong-length .ensures) ∙ c .before .before .before .before .if1 .left)
 
--- src/table.rt:214:8
 out-of-range-requires : tie.Need-out-of-range-requires
 out-of-range-requires c κs = search needs
 
--- src/table.rt:215:9
 returns-4 : tie.Need-returns-4
 unfolding number refusal refusal-number first-found
 returns-4 c = rw (← c .before .before .before .before .before .before .before .before .facts .ensures, sym (c .before .out-of-range .ensures) ∙ c .if4 .taken, sym (c .before .before .before .goes-back .ensures) ∙ c .before .before .if3 .left, sym (c .before .before .before .before .before .too-late .ensures) ∙ c .before .before .before .before .if2 .left, sym (c .before .before .before .before .before .before .before .wrong-length .ensures) ∙ c .before .before .before .before .before .before .if1 .left)
 
--- src/table.rt:217:8
 before-due-requires : tie.Need-before-due-requires
 before-due-requires c κs = search needs
 
--- src/table.rt:218:9
 returns-5 : tie.Need-returns-5
 unfolding number refusal refusal-number first-found
 returns-5 c = rw (← c .before .before .before .before .before .before .before .before .before .before .facts .ensures, sym (c .before .before-due .ensures) ∙ c .if5 .taken, sym (c .before .before .before .out-of-range .ensures) ∙ c .before .before .if4 .left, sym (c .before .before .before .before .before .goes-back .ensures) ∙ c .before .before .before .before .if3 .left, sym (c .before .before .before .before .before .before .before .too-late .ensures) ∙ c .before .before .before .before .before .before .if2 .left, sym (c .before .before .before .before .before .before .before .before .before .wrong-length .ensures) ∙ c .before .before .before .before .before .before .before .before .if1 .left)
 
--- src/table.rt:220:8
 beside-due-requires : tie.Need-beside-due-requires
 beside-due-requires c κs = search needs
 
--- src/table.rt:221:9
 returns-6 : tie.Need-returns-6
 unfolding number refusal refusal-number first-found
 returns-6 c = rw (← c .before .before .before .before .before .before .before .before .before .before .before .before .facts .ensures, sym (c .before .beside-due .ensures) ∙ c .if6 .taken, sym (c .before .before .before .before-due .ensures) ∙ c .before .before .if5 .left, sym (c .before .before .before .before .before .out-of-range .ensures) ∙ c .before .before .before .before .if4 .left, sym (c .before .before .before .before .before .before .before .goes-back .ensures) ∙ c .before .before .before .before .before .before .if3 .left, sym (c .before .before .before .before .before .before .before .before .before .too-late .ensures) ∙ c .before .before .before .before .before .before .before .before .if2 .left, sym (c .before .before .before .before .before .before .before .before .before .before .before .wrong-length .ensures) ∙ c .before .before .before .before .before .before .before .before .before .before .if1 .left)
 
--- src/table.rt:197:1
 returns-7 : tie.Need-returns-7
 unfolding number refusal refusal-number first-found
 returns-7 c = rw (← c .before .before .before .before .before .before .before .before .before .before .before .before .facts .ensures, sym (c .before .beside-due .ensures) ∙ c .if6 .left, sym (c .before .before .before .before-due .ensures) ∙ c .before .before .if5 .left, sym (c .before .before .before .before .before .out-of-range .ensures) ∙ c .before .before .before .before .if4 .left, sym (c .before .before .before .before .before .before .before .goes-back .ensures) ∙ c .before .before .before .before .before .before .if3 .left, sym (c .before .before .before .before .before .before .before .before .before .too-late .ensures) ∙ c .before .before .before .before .before .before .before .before .if2 .left, sym (c .before .before .before .before .before .before .before .before .before .before .before .wrong-length .ensures) ∙ c .before .before .before .before .before .before .before .before .before .before .if1 .left)

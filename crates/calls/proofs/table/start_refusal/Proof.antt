@@ -1,33 +1,24 @@
 use Rattle.calls.specs.Table.{number}
 use Rattle.calls.specs.Table.{start-refusal, refusal-number, first-found}
-use mathlib.Core.Path.{refl, sym, _∙_}
+use mathlib.Core.Path.{sym, _∙_}
 use borrow.Author.Needs.{needs}
 use Rattle.calls.proofs.table.start_refusal.Statement.{statement}
 use Rattle.calls.proofs.table.start_refusal.Tie as tie
-use Rattle.calls.proofs.table.start_refusal.Reads as reads
-use Rattle.calls.proofs.table.start_refusal.Lts as lts
-use Rattle.calls.proofs.table.too_late.Reads as too-late-reads
-use Rattle.calls.proofs.table.wrong_length.Reads as wrong-length-reads
 
--- src/table.rt:230:8
 wrong-length-requires : tie.Need-wrong-length-requires
 wrong-length-requires c κs = search needs
 
--- src/table.rt:231:9
 returns : tie.Need-returns
 unfolding number start-refusal refusal-number first-found
 returns c = rw (sym (c .before .wrong-length .ensures) ∙ c .if1 .taken)
 
--- src/table.rt:233:8
 too-late-requires : tie.Need-too-late-requires
 too-late-requires c κs = search needs
 
--- src/table.rt:234:9
 returns-2 : tie.Need-returns-2
 unfolding number start-refusal refusal-number first-found
 returns-2 c = rw (sym (c .before .too-late .ensures) ∙ c .if2 .taken, sym (c .before .before .before .wrong-length .ensures) ∙ c .before .before .if1 .left)
 
--- src/table.rt:227:1
 returns-3 : tie.Need-returns-3
 unfolding number start-refusal refusal-number first-found
 returns-3 c = rw (sym (c .before .too-late .ensures) ∙ c .if2 .left, sym (c .before .before .before .wrong-length .ensures) ∙ c .before .before .if1 .left)

@@ -1,89 +1,66 @@
 use mir.Syntax.{w32}
 use mir.ValLaws.{toZ-ofZ}
 use Rattle.calls.specs.Facts.{timed-facts}
-use mathlib.Core.Path.{refl, sym, _∙_}
 use borrow.Author.Needs.{needs}
 use Rattle.calls.proofs.table.timed_facts.Statement.{statement}
 use Rattle.calls.proofs.table.timed_facts.Tie as tie
-use Rattle.calls.proofs.table.timed_facts.Reads as reads
-use Rattle.calls.proofs.table.timed_facts.Lts as lts
-use Rattle.calls.proofs.table.at.Reads as at-reads
-use Rattle.calls.proofs.table.setting.Reads as setting-reads
 
--- src/table.rt:68:30
 enum-known-t : tie.Need-enum-known-t
 enum-known-t c = search needs
 
--- src/table.rt:68:42
 setting-requires : tie.Need-setting-requires
 setting-requires c κs = search needs
 
--- src/table.rt:69:32
 enum-told : tie.Need-enum-told
 enum-told c = search needs
 
--- src/table.rt:69:29
 at-requires : tie.Need-at-requires
 at-requires c κs = search needs
 
--- src/table.rt:70:26
 enum-told-2 : tie.Need-enum-told-2
 enum-told-2 c = search needs
 
--- src/table.rt:70:23
 at-requires-2 : tie.Need-at-requires-2
 at-requires-2 c κs = search needs
 
--- src/table.rt:71:32
 enum-told-3 : tie.Need-enum-told-3
 enum-told-3 c = search needs
 
--- src/table.rt:71:29
 at-requires-3 : tie.Need-at-requires-3
 at-requires-3 c κs = search needs
 
--- src/table.rt:72:30
 enum-told-4 : tie.Need-enum-told-4
 enum-told-4 c = search needs
 
--- src/table.rt:72:27
 at-requires-4 : tie.Need-at-requires-4
 at-requires-4 c κs = search needs
 
--- src/table.rt:73:33
 enum-told-5 : tie.Need-enum-told-5
 enum-told-5 c = search needs
 
--- src/table.rt:73:30
 at-requires-5 : tie.Need-at-requires-5
 at-requires-5 c κs = search needs
 
--- src/table.rt:64:1
 returns : tie.Need-returns
 unfolding timed-facts
 returns c = rw (c .before .before .t .given .1) (rw (toZ-ofZ w32 (c .before .before .t .given .0 .0) (record { sfits = c .before .known-told .given .0 .1 }), toZ-ofZ w32 (c .before .before .t .given .0 .1 .0) (record { sfits = c .before .known-told .given .1 .0 .1 }), toZ-ofZ w32 (c .before .before .t .given .0 .1 .1 .0) (record { sfits = c .before .known-told .given .1 .1 .0 .1 })) at (c .setting .ensures))
 
--- src/table.rt:64:1
 returns-2 : tie.Need-returns-2
 unfolding timed-facts
 returns-2 c = simp (c .at .ensures, c .before .enum-told .given .1)
 
--- src/table.rt:64:1
 returns-3 : tie.Need-returns-3
 unfolding timed-facts
 returns-3 c = simp (c .at2 .ensures, c .before .enum-told2 .given .1)
 
--- src/table.rt:64:1
 returns-4 : tie.Need-returns-4
 unfolding timed-facts
 returns-4 c = simp (c .at3 .ensures, c .before .enum-told3 .given .1)
 
--- src/table.rt:64:1
 returns-5 : tie.Need-returns-5
 unfolding timed-facts
 returns-5 c = simp (c .at4 .ensures, c .before .enum-told4 .given .1)
 
--- src/table.rt:64:1
 returns-6 : tie.Need-returns-6
 unfolding timed-facts
 returns-6 c = simp (c .at5 .ensures, c .before .enum-told5 .given .1)

@@ -1,30 +1,21 @@
 use Rattle.calls.specs.Table.{too-late}
-use mathlib.Core.Path.{refl, sym, _∙_}
 use borrow.Author.Needs.{needs}
 use Rattle.calls.proofs.table.too_late.Statement.{statement}
 use Rattle.calls.proofs.table.too_late.Tie as tie
-use Rattle.calls.proofs.table.too_late.Reads as reads
-use Rattle.calls.proofs.table.too_late.Lts as lts
-use Rattle.calls.proofs.table.late.Reads as late-reads
 
--- src/table.rt:110:19
 enum-known-t : tie.Need-enum-known-t
 enum-known-t c = search needs
 
--- src/table.rt:110:27
 late-requires : tie.Need-late-requires
 late-requires c κs = search needs
 
--- src/table.rt:111:27
 enum-told : tie.Need-enum-told
 enum-told c = search needs
 
--- src/table.rt:106:1
 returns : tie.Need-returns
 unfolding too-late
 returns c = simp (c .late .ensures, c .before .before .t .given .1)
 
--- src/table.rt:106:1
 returns-2 : tie.Need-returns-2
 unfolding too-late
 returns-2 c = simp (c .enum-told .given .1)

@@ -1,25 +1,18 @@
 use Rattle.calls.specs.Table.{wrong-length}
-use mathlib.Core.Path.{refl, sym, _∙_}
 use borrow.Author.Needs.{needs}
 use Rattle.calls.proofs.table.wrong_length.Statement.{statement}
 use Rattle.calls.proofs.table.wrong_length.Tie as tie
-use Rattle.calls.proofs.table.wrong_length.Reads as reads
-use Rattle.calls.proofs.table.wrong_length.Lts as lts
 
--- src/table.rt:94:22
 enum-known-b : tie.Need-enum-known-b
 enum-known-b c = search needs
 
--- src/table.rt:95:27
 enum-told : tie.Need-enum-told
 enum-told c = search needs
 
--- src/table.rt:90:1
 returns : tie.Need-returns
 unfolding wrong-length
 returns c = simp (c .before .b .given .1)
 
--- src/table.rt:90:1
 returns-2 : tie.Need-returns-2
 unfolding wrong-length
 returns-2 c = simp (c .enum-told .given .1)

@@ -29,26 +29,15 @@ returns-6 c = rw (not-false (c .before .before .before .before .before .before .
 
 returns-7 : tie.Need-returns-7
 unfolding may-pause
-returns-7 c = rw (not-false (c .before .before .before .before .before .before .before .args .verify) (c .before .before .before .before .before .before .if1 .left), c .before .before .before .before .before .if2 .left, c .before .before .before .before .if3 .left, c .before .before .before .if4 .left, c .before .before .if5 .left, c .before .if6 .left, not-true (c .before .before .before .before .before .before .before .args .acquired) (c .if7 .taken))
+returns-7 c = rw (not-false (c .before .before .before .before .before .before .before .before .args .verify) (c .before .before .before .before .before .before .before .if1 .left), c .before .before .before .before .before .before .if2 .left, c .before .before .before .before .before .if3 .left, c .before .before .before .before .if4 .left, c .before .before .before .if5 .left, c .before .before .if6 .left, not-true (c .before .before .before .before .before .before .before .before .args .does .acquired) (c .if7 .taken))
 
 returns-8 : tie.Need-returns-8
 unfolding may-pause
-returns-8 c = rw (not-false (c .before .before .before .before .before .before .before .before .args .verify) (c .before .before .before .before .before .before .before .if1 .left), c .before .before .before .before .before .before .if2 .left, c .before .before .before .before .before .if3 .left, c .before .before .before .before .if4 .left, c .before .before .before .if5 .left, c .before .before .if6 .left, not-false (c .before .before .before .before .before .before .before .before .args .acquired) (c .before .if7 .left), c .if8 .taken)
+returns-8 c = rw (not-false (c .before .before .before .before .before .before .before .before .before .args .verify) (c .before .before .before .before .before .before .before .before .if1 .left), c .before .before .before .before .before .before .before .if2 .left, c .before .before .before .before .before .before .if3 .left, c .before .before .before .before .before .if4 .left, c .before .before .before .before .if5 .left, c .before .before .before .if6 .left, not-false (c .before .before .before .before .before .before .before .before .before .args .does .acquired) (c .before .if7 .left), c .if8 .taken)
 
 returns-9 : tie.Need-returns-9
 unfolding may-pause
-returns-9 c = rw (not-false (c .before .before .before .before .before .before .before .before .args .verify) (c .before .before .before .before .before .before .before .if1 .left), c .before .before .before .before .before .before .if2 .left, c .before .before .before .before .before .if3 .left, c .before .before .before .before .if4 .left, c .before .before .before .if5 .left, c .before .before .if6 .left, not-false (c .before .before .before .before .before .before .before .before .args .acquired) (c .before .if7 .left), c .if8 .left)
+returns-9 c = rw (not-false (c .before .before .before .before .before .before .before .before .before .before .args .verify) (c .before .before .before .before .before .before .before .before .before .if1 .left), c .before .before .before .before .before .before .before .before .if2 .left, c .before .before .before .before .before .before .before .if3 .left, c .before .before .before .before .before .before .if4 .left, c .before .before .before .before .before .if5 .left, c .before .before .before .before .if6 .left, not-false (c .before .before .before .before .before .before .before .before .before .before .args .does .acquired) (c .before .before .if7 .left), c .before .if8 .left)
 
 pub may-pause-spec : {M : Type 1} → statement M
-may-pause-spec =
-    tie.close
-    (tie.spec
-    returns
-    returns-2
-    returns-3
-    returns-4
-    returns-5
-    returns-6
-    returns-7
-    returns-8
-    returns-9)
+may-pause-spec = tie.close (tie.spec returns returns-2 returns-3 returns-4 returns-5 returns-6 returns-7 returns-8 returns-9)

@@ -5,7 +5,7 @@ use lib.Dec.{lit<}
 use Rattle.laws.specs.Words.{diff}
 use native.Mathlib.Omega.{arith}
 use Rattle.time.specs.Time.{lasts}
-use Rattle.time.specs.Laws.{duration-at}
+use Rattle.time.specs.Theorems.Laws.{duration-at}
 use Rattle.control.specs.Waits.{scan}
 use borrow.Author.Needs.{needs}
 use Rattle.control.proofs.waits.acquisition_delay.Statement.{statement}

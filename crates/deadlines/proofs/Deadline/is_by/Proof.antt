@@ -1,4 +1,4 @@
-use Rattle.deadlines.specs.Earliest.{not-ltb}
+use Rattle.deadlines.specs.Theorems.Earliest.{not-ltb}
 use Rattle.deadlines.specs.Deadlines.{is-by}
 use borrow.Author.Needs.{needs}
 use Rattle.deadlines.proofs.Deadline.is_by.Statement.{statement}

@@ -1,4 +1,4 @@
-use Rattle.deadlines.specs.Earliest.{sooner-never}
+use Rattle.deadlines.specs.Theorems.Earliest.{sooner-never}
 use Rattle.deadlines.specs.Deadlines.{earliest, first}
 use borrow.Author.Needs.{needs}
 use Rattle.deadlines.proofs.Deadlines.earliest.Statement.{statement}

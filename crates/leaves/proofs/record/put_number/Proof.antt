@@ -1,5 +1,4 @@
-use native.Mathlib.Omega.{arith}
-use Prim.Native.Nat.{_+_, _-_, _*_, _≤_, _<_}
+use Prim.Native.Nat.{_-_, _≤_}
 use borrow.Author.Needs.{needs}
 use Rattle.leaves.proofs.record.put_number.Statement.{statement}
 use Rattle.leaves.proofs.record.put_number.Tie as tie

@@ -4,9 +4,9 @@ use native.Mathlib.Omega.{arith}
 use Rattle.time.specs.declared.Time.{Time}
 use Rattle.time.specs.declared.Duration.{Duration}
 use Rattle.time.specs.Time.{ticks, lasts, since}
-use Rattle.time.specs.Laws.{lasts-since, ticks-fits}
+use Rattle.time.specs.Theorems.Laws.{lasts-since, ticks-fits}
 use Rattle.nv.specs.Cell.{write-length, byte}
-use Rattle.nv.specs.Laws.{end-is-wanted}
+use Rattle.nv.specs.Theorems.Laws.{end-is-wanted}
 use borrow.Author.Needs.{needs}
 use Rattle.nv.proofs.WriteCycle.byte.Statement.{statement}
 use Rattle.nv.proofs.WriteCycle.byte.Tie as tie

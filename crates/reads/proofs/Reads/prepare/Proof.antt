@@ -1,5 +1,5 @@
 use borrow.Author.Tests.{not-true, not-false}
-use Rattle.reads.specs.Pairs.{axis-lt}
+use Rattle.reads.specs.Theorems.Pairs.{axis-lt}
 use Rattle.reads.specs.Reads.{prepared, high-byte}
 use mathlib.Core.Path.{sym, _∙_}
 use borrow.Author.Tests.{eq-eqb, ne-eqb}

@@ -7,14 +7,14 @@ use Rattle.sampling.specs.declared.types.Test.{Test}
 use Rattle.sampling.specs.declared.types.Test.the-variants.{Off}
 use mathlib.Core.Path.{_≡_, ap, _∙_}
 use borrow.Author.Tests.{eq-eqb, ne-eqb}
-use Rattle.sampling.specs.declared.types.Conversion.{Conversion}
+use Rattle.sampling.specs.declared.types.Acquisition.{Acquisition}
 use Rattle.sampling.specs.Phase.{axis-phase, scanned, observed, counted, measured}
 use borrow.Author.Needs.{needs}
 use Rattle.sampling.proofs.phase.axis_phase.Statement.{statement}
 use Rattle.sampling.proofs.phase.axis_phase.Tie as tie
 
 -- without a self test the axis is measured, and after z the scan is complete
-off : (test : Test) (c d : Conversion) (input : Input) (phase : ℕ) (needs : List ℕ) → test ≡ Off
+off : (test : Test) (c d : Acquisition) (input : Input) (phase : ℕ) (needs : List ℕ) → test ≡ Off
     → d ≡ cond (eqb (phase - 1) 2) (observed (counted (measured c input (phase - 1))) needs) (measured c input (phase - 1))
     → d ≡ axis-phase test c input phase needs
 unfolding axis-phase scanned
@@ -39,7 +39,7 @@ returns : tie.Need-returns
 returns c =
     let a = c .before .before .before .before .before .before .before .before .args in
     let z = eq-eqb _ _ (c .before .before .if1 .taken) in
-    off _ _ _ _ _ _ (c .before .before .before .before .before .before .enum-told .given .1) (rw z (c .scanned .ensures _ ∙ ap (λ (k : Conversion). observed (counted k) (a .needs)) (c .before .before .before .measured .ensures)))
+    off _ _ _ _ _ _ (c .before .before .before .before .before .before .enum-told .given .1) (rw z (c .scanned .ensures _ ∙ ap (λ (k : Acquisition). observed (counted k) (a .needs)) (c .before .before .before .measured .ensures)))
 
 enum-known-test : tie.Need-enum-known-test
 enum-known-test c = search needs

@@ -29,12 +29,12 @@ add-high c = search needs
 element-copy-out-high : tie.Need-element-copy-out-high
 element-copy-out-high c = search needs
 
-sampled-requires : tie.Need-sampled-requires
-sampled-requires c κs = search needs
+axis-input-requires : tie.Need-axis-input-requires
+axis-input-requires c κs = search needs
 
 cast-code : tie.Need-cast-code
 cast-code c =
-    let r : Reach (c .sampled .result) (2 ^ 31) = record { reach = c .sampled .ok } in
+    let r : Reach (c .axis-input .result) (2 ^ 31) = record { reach = c .axis-input .ok } in
     rw (back w32 r tt) (holds r tt)
 
 offset-requires : tie.Need-offset-requires
@@ -52,7 +52,7 @@ code-requires c κs = search needs
 returns-2 : tie.Need-returns-2
 unfolding converted
 returns-2 c =
-    let v = c .before .before .before .before .sampled in
+    let v = c .before .before .before .before .axis-input in
     let r : Reach (v .result) (2 ^ 31) = record { reach = v .ok } in
     let k : Reach (c .code .result) (2 ^ 15) = record { reach = c .code .ok } in
     rw (sym (c .before .before .before .before .before .before .before .before .has .ensures) ∙ c .before .before .before .before .before .before .before .if1 .left, back w16 k tt, c .code .ensures, c .before .range .ensures, c .before .before .before .offset .ensures, back w32 r tt, back w64 r tt, v .ensures)
@@ -68,7 +68,7 @@ converted-spec =
     element-copy-out-low
     add-high
     element-copy-out-high
-    sampled-requires
+    axis-input-requires
     cast-code
     offset-requires
     element-copy-out-range

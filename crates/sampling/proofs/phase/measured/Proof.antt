@@ -5,7 +5,7 @@ use mir.Facts.{toZ-ofZ}
 use Rattle.laws.specs.Signed.{Reach, back}
 use Rattle.filter.specs.declared.Filter.{Filter}
 use Rattle.filter.specs.Filter.{pushed, answered}
-use Rattle.sampling.specs.Apart.{joined}
+use Rattle.sampling.specs.Split.{joined}
 use Rattle.sampling.specs.Phase.{converted, shown}
 use borrow.Author.Needs.{needs}
 use Rattle.sampling.proofs.phase.measured.Statement.{statement}

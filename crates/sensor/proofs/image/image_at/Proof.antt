@@ -9,8 +9,8 @@ enum-told c = search needs
 enum-known-operation : tie.Need-enum-known-operation
 enum-known-operation c = search needs
 
-cell-requires : tie.Need-cell-requires
-cell-requires c κs = search needs
+cell-byte-requires : tie.Need-cell-byte-requires
+cell-byte-requires c κs = search needs
 
 cast-byte : tie.Need-cast-byte
 cast-byte c = search needs
@@ -30,7 +30,7 @@ returns c = simp (c .enum-told .given .1)
 
 returns-2 : tie.Need-returns-2
 unfolding image-at
-returns-2 c = simp (c .with-cell .ensures, c .before .byte .ensures, c .before .before .cell .ensures, c .before .before .before .before .operation .given .1)
+returns-2 c = simp (c .with-cell .ensures, c .before .byte .ensures, c .before .before .cell-byte .ensures, c .before .before .before .before .operation .given .1)
 
 pub image-at-spec : {M : Type 1} → statement M
 image-at-spec =
@@ -38,7 +38,7 @@ image-at-spec =
     (tie.spec
     enum-told
     enum-known-operation
-    cell-requires
+    cell-byte-requires
     cast-byte
     add-byte
     byte-requires

@@ -18,8 +18,8 @@ enum-known-action c = search needs
 write-register-requires : tie.Need-write-register-requires
 write-register-requires c κs = search needs
 
-acknowledged-requires : tie.Need-acknowledged-requires
-acknowledged-requires c κs = search needs
+acknowledge-begun-requires : tie.Need-acknowledge-begun-requires
+acknowledge-begun-requires c κs = search needs
 
 enum-known-action-2 : tie.Need-enum-known-action-2
 enum-known-action-2 c = search needs
@@ -33,8 +33,8 @@ launched-requires c κs = search needs
 enum-known-action-3 : tie.Need-enum-known-action-3
 enum-known-action-3 c = search needs
 
-acknowledge-read-requires : tie.Need-acknowledge-read-requires
-acknowledge-read-requires c κs = search needs
+read-began-requires : tie.Need-read-began-requires
+read-began-requires c κs = search needs
 
 returns : tie.Need-returns
 unfolding acted
@@ -46,7 +46,7 @@ returns-2 c = simp (c .byte-dropped .ensures, c .before .enum-told2 .given .1)
 
 returns-3 : tie.Need-returns-3
 unfolding acted
-returns-3 c = simp (c .acknowledged .ensures, c .before .write-register .ensures, c .before .before .before .action .given .1)
+returns-3 c = simp (c .acknowledge-begun .ensures, c .before .write-register .ensures, c .before .before .before .action .given .1)
 
 returns-4 : tie.Need-returns-4
 unfolding acted
@@ -54,7 +54,7 @@ returns-4 c = simp (c .launched .ensures, c .before .prepare-read .ensures, c .b
 
 returns-5 : tie.Need-returns-5
 unfolding acted
-returns-5 c = simp (c .acknowledge-read .ensures, c .before .before .action3 .given .1)
+returns-5 c = simp (c .read-began .ensures, c .before .before .action3 .given .1)
 
 pub acted-spec : {M : Type 1} → statement M
 acted-spec =
@@ -65,12 +65,12 @@ acted-spec =
     byte-dropped-requires
     enum-known-action
     write-register-requires
-    acknowledged-requires
+    acknowledge-begun-requires
     enum-known-action-2
     prepare-read-requires
     launched-requires
     enum-known-action-3
-    acknowledge-read-requires
+    read-began-requires
     returns
     returns-2
     returns-3

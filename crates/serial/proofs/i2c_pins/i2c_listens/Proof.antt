@@ -15,13 +15,13 @@ returns-2 : tie.Need-returns-2
 unfolding i2c-listens
 returns-2 c = simp (sym (c .before .is-off .ensures) ∙ c .if2 .taken, c .before .before .if1 .left)
 
-is-dead-requires : tie.Need-is-dead-requires
-is-dead-requires c κs = search needs
+serial-not-ready-requires : tie.Need-serial-not-ready-requires
+serial-not-ready-requires c κs = search needs
 
 returns-3 : tie.Need-returns-3
 unfolding i2c-listens
-returns-3 c = simp (c .is-dead .ensures, sym (c .before .before .is-off .ensures) ∙ c .before .if2 .left, c .before .before .before .if1 .left)
+returns-3 c = simp (c .serial-not-ready .ensures, sym (c .before .before .is-off .ensures) ∙ c .before .if2 .left, c .before .before .before .if1 .left)
 
 pub i2c-listens-spec : {M : Type 1} → statement M
 i2c-listens-spec =
-    tie.close (tie.spec returns is-off-requires returns-2 is-dead-requires returns-3)
+    tie.close (tie.spec returns is-off-requires returns-2 serial-not-ready-requires returns-3)

@@ -4,7 +4,7 @@ use native.Mathlib.Omega.{arith}
 use Rattle.time.specs.declared.Time.{Time}
 use Rattle.time.specs.declared.Duration.{Duration}
 use Rattle.time.specs.Time.{ticks, lasts, since}
-use Rattle.time.specs.Laws.{lasts-since, ticks-fits}
+use Rattle.time.specs.Theorems.Laws.{lasts-since, ticks-fits}
 use borrow.Author.Needs.{needs}
 use Rattle.time.proofs.Clock.edges_before.Statement.{statement}
 use Rattle.time.proofs.Clock.edges_before.Tie as tie

@@ -3,7 +3,7 @@ use mathlib.Core.Path.{_∙_, ap}
 use Prim.Native.Nat.{ℕ, _+_}
 use Rattle.time.specs.Time.{ticks, time, plus}
 use Rattle.time.specs.declared.Duration.{Duration}
-use Rattle.time.specs.Laws.{lasts-duration, edge-fits}
+use Rattle.time.specs.Theorems.Laws.{lasts-duration, edge-fits}
 use Rattle.time.specs.Clock.{edge-ticks}
 use borrow.Author.Needs.{needs}
 use Rattle.time.proofs.Clock.last.Statement.{statement}

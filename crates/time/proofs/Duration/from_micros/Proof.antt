@@ -1,6 +1,6 @@
 use Prim.Native.Nat.{_*_, _/_, _^_}
 use native.Mathlib.Omega.{arith}
-use Rattle.time.specs.Laws.{duration-at}
+use Rattle.time.specs.Theorems.Laws.{duration-at}
 use borrow.Author.Needs.{needs}
 use Rattle.time.proofs.Duration.from_micros.Statement.{statement}
 use Rattle.time.proofs.Duration.from_micros.Tie as tie

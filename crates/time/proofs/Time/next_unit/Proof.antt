@@ -1,7 +1,7 @@
 use Prim.Native.Nat.{_+_, _-_, _^_, min}
 use native.Mathlib.Omega.{arith}
 use Rattle.laws.specs.Words.{next-keeps, next-carries, next-stays}
-use Rattle.time.specs.Laws.{time-at}
+use Rattle.time.specs.Theorems.Laws.{time-at}
 use Rattle.time.specs.Time.{ticks}
 use borrow.Author.Needs.{needs}
 use Rattle.time.proofs.Time.next_unit.Statement.{statement}

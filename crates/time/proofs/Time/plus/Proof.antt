@@ -2,7 +2,7 @@ use mathlib.Core.Path.{_≡_}
 use Prim.Native.Nat.{_+_, _-_, _%_, _^_}
 use native.Mathlib.Omega.{arith}
 use Rattle.laws.specs.Words.{sum-keeps, sum-carries}
-use Rattle.time.specs.Laws.{time-of}
+use Rattle.time.specs.Theorems.Laws.{time-of}
 use Rattle.time.specs.Time.{ticks, lasts}
 use borrow.Author.Needs.{needs}
 use Rattle.time.proofs.Time.plus.Statement.{statement}

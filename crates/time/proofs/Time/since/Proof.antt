@@ -2,7 +2,7 @@ use mathlib.Core.Path.{_≡_, sym}
 use Prim.Native.Nat.{_-_, _^_}
 use native.Mathlib.Omega.{arith}
 use Rattle.laws.specs.Words.{sub-none, sub-keeps, sub-borrows}
-use Rattle.time.specs.Laws.{duration-at}
+use Rattle.time.specs.Theorems.Laws.{duration-at}
 use Rattle.time.specs.Time.{ticks}
 use borrow.Author.Needs.{needs}
 use Rattle.time.proofs.Time.since.Statement.{statement}

@@ -11,8 +11,8 @@ use Rattle.waits.proofs.due.write_ended.Tie as tie
 enum-told : tie.Need-enum-told
 enum-told c = search needs
 
-silently-requires : tie.Need-silently-requires
-silently-requires c κs = search needs
+without-report-requires : tie.Need-without-report-requires
+without-report-requires c κs = search needs
 
 enum-known-operation : tie.Need-enum-known-operation
 enum-known-operation c = search needs
@@ -35,12 +35,12 @@ returns c =
     let f = ap (λ (t : Time). same t now) (sym (d .ensures)) ∙ e in
     rw (c .before .before .before .before .before .operation .given .1, f) (c .completed .ensures)
 
-silently-requires-2 : tie.Need-silently-requires-2
-silently-requires-2 c κs = search needs
+without-report-requires-2 : tie.Need-without-report-requires-2
+without-report-requires-2 c κs = search needs
 
 returns-2 : tie.Need-returns-2
 unfolding write-ended
-returns-2 c = simp (c .silently .ensures, c .before .enum-told .given .1)
+returns-2 c = simp (c .without-report .ensures, c .before .enum-told .given .1)
 
 returns-3 : tie.Need-returns-3
 unfolding write-ended
@@ -49,19 +49,19 @@ returns-3 c =
     let d = c .before .before .before .deadline in
     let e : same (d .result) now ≡ false = sym (c .before .before .same .ensures) ∙ c .before .if1 .left in
     let f = ap (λ (t : Time). same t now) (sym (d .ensures)) ∙ e in
-    rw (c .before .before .before .before .before .operation .given .1, f) (c .silently2 .ensures)
+    rw (c .before .before .before .before .before .operation .given .1, f) (c .without-report2 .ensures)
 
 pub write-ended-spec : {M : Type 1} → statement M
 write-ended-spec =
     tie.close
     (tie.spec
     enum-told
-    silently-requires
+    without-report-requires
     enum-known-operation
     deadline-requires
     same-requires
     completed-requires
     returns
-    silently-requires-2
+    without-report-requires-2
     returns-2
     returns-3)

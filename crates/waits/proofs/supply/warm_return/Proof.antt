@@ -8,12 +8,12 @@ outage-requires c κs = search needs
 shifted-requires : tie.Need-shifted-requires
 shifted-requires c κs = search needs
 
-woken-again-requires : tie.Need-woken-again-requires
-woken-again-requires c κs = search needs
+reacquired-requires : tie.Need-reacquired-requires
+reacquired-requires c κs = search needs
 
 returns : tie.Need-returns
-returns c = simp (c .woken-again .ensures, c .before .shifted .ensures, c .before .before .outage .ensures)
+returns c = simp (c .reacquired .ensures, c .before .shifted .ensures, c .before .before .outage .ensures)
 
 pub warm-return-spec : {M : Type 1} → statement M
 warm-return-spec =
-    tie.close (tie.spec outage-requires shifted-requires woken-again-requires returns)
+    tie.close (tie.spec outage-requires shifted-requires reacquired-requires returns)

@@ -2,24 +2,17 @@ use mir.Syntax.{w32}
 use Rattle.laws.specs.Signed.{back, of-fits}
 use mathlib.Core.Path.{ap}
 use Rattle.calls.specs.Table.{number}
-use mathlib.Core.Path.{refl, sym, _∙_}
+use mathlib.Core.Path.{_∙_}
 use borrow.Author.Needs.{needs}
 use Rattle.bma150.proofs.host.Bma150.accelerations.Statement.{statement}
 use Rattle.bma150.proofs.host.Bma150.accelerations.Tie as tie
-use Rattle.bma150.proofs.host.Bma150.accelerations.Reads as reads
-use Rattle.bma150.proofs.host.Bma150.accelerations.Lts as lts
-use Rattle.bma150.proofs.host.Bma150.timed.Reads as timed-reads
-use Rattle.bma150.proofs.host.replied.Reads as replied-reads
 
--- src/host.rt:161:17
 timed-requires : tie.Need-timed-requires
 timed-requires c κs = search needs
 
--- src/host.rt:161:9
 replied-requires : tie.Need-replied-requires
 replied-requires c κs = search needs
 
--- src/host.rt:157:5
 returns : tie.Need-returns
 returns c =
     let f = c .before .before .fits in

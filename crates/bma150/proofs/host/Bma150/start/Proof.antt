@@ -1,34 +1,22 @@
 use Rattle.calls.specs.Theorems.Left.{accepted-is, refused-is, start-length}
 use Rattle.bma150.specs.Called.{after-start}
-use mathlib.Core.Path.{refl, sym, _∙_}
+use mathlib.Core.Path.{sym, _∙_}
 use borrow.Author.Needs.{needs}
 use Rattle.bma150.proofs.host.Bma150.start.Statement.{statement}
 use Rattle.bma150.proofs.host.Bma150.start.Tie as tie
-use Rattle.bma150.proofs.host.Bma150.start.Reads as reads
-use Rattle.bma150.proofs.host.Bma150.start.Lts as lts
-use Rattle.bma150.proofs.host.image_of.Reads as image-of-reads
-use Rattle.calls.proofs.table.is_accepted.Reads as is-accepted-reads
-use Rattle.calls.proofs.table.start_refusal.Reads as start-refusal-reads
-use Rattle.sensor.proofs.image.stock.Reads as stock-reads
-use Rattle.sensor.proofs.types.Sensor.from_nonvolatile.Reads as from-nonvolatile-reads
 
--- src/host.rt:104:13
 start-refusal-requires : tie.Need-start-refusal-requires
 start-refusal-requires c κs = search needs
 
--- src/host.rt:105:12
 is-accepted-requires : tie.Need-is-accepted-requires
 is-accepted-requires c κs = search needs
 
--- src/host.rt:106:17
 image-of-requires : tie.Need-image-of-requires
 image-of-requires c κs = start-length (c .before .before .before .before .args .when) _ (rw (c .before .before .start-refusal .ensures) at (sym (c .before .is-accepted .ensures) ∙ c .if1 .taken))
 
--- src/host.rt:108:25
 from-nonvolatile-requires : tie.Need-from-nonvolatile-requires
 from-nonvolatile-requires c κs = search needs
 
--- src/host.rt:111:13
 returns : tie.Need-returns
 unfolding after-start
 returns c =
@@ -36,15 +24,12 @@ returns c =
     let e = rw n at (sym (c .before .before .before .is-accepted .ensures) ∙ c .before .before .if1 .taken) in
     (n, rw (c .from-nonvolatile .ensures, c .before .image-of .ensures) (sym (accepted-is _ _ _ e)))
 
--- src/host.rt:117:58
 stock-requires : tie.Need-stock-requires
 stock-requires c κs = search needs
 
--- src/host.rt:117:21
 from-nonvolatile-requires-2 : tie.Need-from-nonvolatile-requires-2
 from-nonvolatile-requires-2 c κs = search needs
 
--- src/host.rt:100:5
 returns-2 : tie.Need-returns-2
 unfolding after-start
 returns-2 c =

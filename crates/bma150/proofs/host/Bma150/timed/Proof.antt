@@ -8,39 +8,26 @@ use Rattle.bma150.proofs.Laws.{reports-added}
 use Rattle.bma150.specs.Called.{leaves, adds}
 use Rattle.bma150.specs.Values.{report-values}
 use Rattle.bma150.specs.Called.{reported}
-use mathlib.Core.Path.{_≡_, refl, sym, ap, _∙_}
+use mathlib.Core.Path.{_≡_, sym, ap, _∙_}
 use borrow.Author.Needs.{needs}
 use Rattle.bma150.proofs.host.Bma150.timed.Statement.{statement}
 use Rattle.bma150.proofs.host.Bma150.timed.Tie as tie
-use Rattle.bma150.proofs.host.Bma150.timed.Reads as reads
-use Rattle.bma150.proofs.host.Bma150.timed.Lts as lts
-use Rattle.bma150.proofs.host.effect.Reads as effect-reads
-use Rattle.calls.proofs.table.is_accepted.Reads as is-accepted-reads
-use Rattle.calls.proofs.table.refusal.Reads as refusal-reads
-use Rattle.writes.proofs.samples.interaction_deadline.Reads as interaction-deadline-reads
-use Rattle.writes.proofs.samples.sync_local_until.Reads as sync-local-until-reads
 
--- src/host.rt:134:37
 interaction-deadline-requires : tie.Need-interaction-deadline-requires
 interaction-deadline-requires c κs = search needs
 
--- src/host.rt:134:13
 refusal-requires : tie.Need-refusal-requires
 refusal-requires c κs = search needs
 
--- src/host.rt:135:12
 is-accepted-requires : tie.Need-is-accepted-requires
 is-accepted-requires c κs = search needs
 
--- src/host.rt:136:17
 sync-local-until-requires : tie.Need-sync-local-until-requires
 sync-local-until-requires c κs = search needs
 
--- src/host.rt:137:17
 effect-requires : tie.Need-effect-requires
 effect-requires c κs = search needs
 
--- src/host.rt:144:13
 returns : tie.Need-returns
 unfolding report-values reported leaves adds unless-refused
 returns c =
@@ -50,7 +37,6 @@ returns c =
     let f = c .before .effect .ensures ∙ ap (λ (s : Sensor). effect s (a .now) (a .t)) (c .before .before .sync-local-until .ensures) in
     (n, (rw (← n, e, f), rw (← n, e, f) (reports-added _ (a .now) (a .t))))
 
--- src/host.rt:127:5
 returns-2 : tie.Need-returns-2
 unfolding report-values reported leaves adds unless-refused
 returns-2 c =

@@ -1,4 +1,4 @@
-use Rattle.sensor.specs.Bytes.{fetched}
+use Rattle.sensor.specs.RegisterReads.{fetched}
 use borrow.Author.Needs.{needs}
 use Rattle.sensor.proofs.types.Sensor.fetched.Statement.{statement}
 use Rattle.sensor.proofs.types.Sensor.fetched.Tie as tie

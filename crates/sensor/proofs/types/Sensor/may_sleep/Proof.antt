@@ -1,46 +1,15 @@
-use Rattle.sensor.specs.Mode.{may-sleep}
 use borrow.Author.Needs.{needs}
 use Rattle.sensor.proofs.types.Sensor.may_sleep.Statement.{statement}
 use Rattle.sensor.proofs.types.Sensor.may_sleep.Tie as tie
 
-is-set-requires : tie.Need-is-set-requires
-is-set-requires c κs = search needs
-
-tests-requires : tie.Need-tests-requires
-tests-requires c κs = search needs
-
-is-copying-requires : tie.Need-is-copying-requires
-is-copying-requires c κs = search needs
-
-is-writing-requires : tie.Need-is-writing-requires
-is-writing-requires c κs = search needs
-
-acquired-requires : tie.Need-acquired-requires
-acquired-requires c κs = search needs
-
-interrupt-requires : tie.Need-interrupt-requires
-interrupt-requires c κs = search needs
-
-verifying-requires : tie.Need-verifying-requires
-verifying-requires c κs = search needs
+activity-requires : tie.Need-activity-requires
+activity-requires c κs = search needs
 
 may-pause-requires : tie.Need-may-pause-requires
 may-pause-requires c κs = search needs
 
 returns : tie.Need-returns
-unfolding may-sleep
-returns c = simp (c .may-pause .ensures, c .before .verifying .ensures, c .before .before .interrupt .ensures, c .before .before .before .acquired .ensures, c .before .before .before .before .is-writing .ensures, c .before .before .before .before .before .is-copying .ensures, c .before .before .before .before .before .before .tests .ensures, c .before .before .before .before .before .before .before .is-set .ensures)
+returns c = simp (c .may-pause .ensures, c .before .activity .ensures)
 
 pub may-sleep-spec : {M : Type 1} → statement M
-may-sleep-spec =
-    tie.close
-    (tie.spec
-    is-set-requires
-    tests-requires
-    is-copying-requires
-    is-writing-requires
-    acquired-requires
-    interrupt-requires
-    verifying-requires
-    may-pause-requires
-    returns)
+may-sleep-spec = tie.close (tie.spec activity-requires may-pause-requires returns)

@@ -1,4 +1,4 @@
-use Rattle.sensor.specs.Bytes.{shown}
+use Rattle.sensor.specs.RegisterReads.{shown}
 use borrow.Author.Tests.{eq-eqb, ne-eqb}
 use borrow.Author.Needs.{needs}
 use Rattle.sensor.proofs.types.Sensor.shown.Statement.{statement}

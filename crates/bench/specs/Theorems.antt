@@ -1,0 +1,5 @@
+pub mod Put
+pub mod Text
+pub mod Turns
+pub mod Blocks
+pub mod Whole
