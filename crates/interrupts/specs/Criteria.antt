@@ -48,14 +48,17 @@ observe t axis code threshold hysteresis high = record {
 unfoldable pub fires : (enabled met : Bool) (count duration : ℕ) → Bool
 fires enabled met count duration = enabled && met && ltb duration (count + 1)
 
--- the count after a millisecond: it starts anew when it fires, and falls by the counter's mode, to 0 at mode 0 (the Rust's rule)
+-- the count rises, and starts anew when it fires
+abbrev pub counted-up : (count duration : ℕ) → ℕ
+counted-up count duration = if ltb duration (count + 1) then 0 else count + 1
+
+-- or it falls by the counter's mode, to 0 at mode 0 (the Rust's rule)
+abbrev pub counted-down : (count mode : ℕ) → ℕ
+counted-down count mode = if eqb mode 0 then 0 else count - mode
+
+-- the count after a millisecond
 unfoldable pub counted : (enabled met : Bool) (count duration mode : ℕ) → ℕ
-counted enabled met count duration mode =
-    if enabled
-    then (if met
-    then (if ltb duration (count + 1) then 0 else count + 1)
-    else if eqb mode 0 then 0 else count - mode)
-    else 0
+counted enabled met count duration mode = if enabled then (if met then counted-up count duration else counted-down count mode) else 0
 
 -- a criterion fires
 abbrev pub fired : Threshold → (high enabled : Bool) (duration : ℕ) → Bool

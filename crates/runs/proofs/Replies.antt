@@ -46,6 +46,7 @@ module _ (m : Host) (h : Meets m) where
         ∙ ap (λ (s : Bma150). answers s further) (left-is b cs now rail p q)
         ∙ claim .same b d cs ds now rail power g k (sym (put-is b cs now rail p q r) ∙ bytes ∙ put-is d ds now power x y z) same further
         ∙ sym (ran-is e .0 ∙ ap (λ (s : Bma150). answers s further) (left-is d ds now power x y));
+    alike = λ p q. (ran-is p .0 ∙ sym (ran-is q .0), ran-is p .1 ∙ sym (ran-is q .1));
     run = λ b cs d. let p = h .begins b in let q = runs-on (p .0) cs d in (p .0, p .1, q .0, q .1, q .2);
   }
 

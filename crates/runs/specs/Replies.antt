@@ -39,4 +39,6 @@ pub record HostClaim (m : Host) : Type 1 where
       → m .starts d u → Run m u (ending ds now power) p v → m .calls v (Call.StoredImage now 19) w e
       → a .adds ≡ e .adds → kept b cs ≡ kept d ds
       → (further : List Call) {x y : Bma150} {f g : List Answer} → Run m s further f x → Run m v further g y → f ≡ g
+  -- two runs of one list from one sensor, each call by value or lent, answer alike and leave the same sensor
+  pub alike : {s x y : Bma150} {cs : List Call} {f g : List Answer} → Run m s cs f x → Run m s cs g y → (f ≡ g) × (x ≡ y)
   pub run : (b : Start) (cs : List Call) → AllDeclared cs → (s : Bma150) × m .starts b s × (out : List Answer) × (t : Bma150) × Run m s cs out t

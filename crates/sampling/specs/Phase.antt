@@ -76,7 +76,7 @@ abbrev pub warmed : Acquisition → (input : Input) → Acquisition
 warmed c input = with-registers c (set (c .registers) temp (temperature (input .«temperature_millicelsius»)))
 
 -- the registers of an axis after a filtered code
-abbrev pub with-code : (registers : Registers) (axis : ℕ) (k : ℤ) → List ℕ
+abbrev pub with-code : (registers : Registers) (axis : ℕ) (k : ℤ) → Registers
 with-code registers axis k = set (set registers (acc-lsb axis) (code-low k)) (acc-msb axis) (code-high k)
 
 -- a filtered code of an axis goes to its registers and to the criteria

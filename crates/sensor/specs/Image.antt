@@ -33,23 +33,23 @@ use Rattle.sensor.specs.Record.{with-registers, with-reads, with-samplin
 
 -- ---- stored cells: addresses 2b..3d in order; there is none elsewhere
 
-unfoldable pub cell-byte : (image : Image) (address : Address) → ℕ
+unfoldable pub cell-byte : (image : Image) (address : Address) → Byte
 cell-byte image address = if stored address then getD image (address - 0x2b) 0 else 0
 
-unfoldable pub with-cell : (image : Image) (address : Address) (value : Byte) → List ℕ
+unfoldable pub with-cell : (image : Image) (address : Address) (value : Byte) → Image
 with-cell image address value = if stored address then set image (address - 0x2b) value else image
 
 -- the stored bytes at a moment: a running write shows in its cell (`nonvolatile`)
-unfoldable pub image-at : Operation → (image : Image) (now : Time) → List ℕ
+unfoldable pub image-at : Operation → (image : Image) (now : Time) → Image
 image-at Operation.Idle image now = image
 image-at (Operation.Running w address value) image now = with-cell image address (byte-at w (cell-byte image address) value (cell-number address) now)
 
-abbrev pub nonvolatile : Sensor → (now : Time) → List ℕ
+abbrev pub nonvolatile : Sensor → (now : Time) → Image
 nonvolatile s now = image-at (s .writing .operation) (s .nonvolatile) now
 
 -- ---- the image copied into the registers 0b..1d (`copy_image`)
 
-abbrev pub image-copied : (registers : Registers) (image : Image) → List ℕ
+abbrev pub image-copied : (registers : Registers) (image : Image) → Registers
 image-copied registers image = paste registers 0x0b image 19
 
 -- held pairs are released where shadow_dis is set
@@ -69,7 +69,7 @@ copy-image s = configured s (image-copied (s .registers) (s .nonvolatile))
 -- ---- a sensor at its start
 
 -- registers after a reset: chip_id 2, version 10 hex, else 0 (the Rust's rule)
-abbrev pub reset-registers : List ℕ
+abbrev pub reset-registers : Registers
 reset-registers = set (set (replicate 62 0) chip-id 2) version 0x10
 
 -- the start's acceleration 0, 0, 1000000 and temperature 20000 (the Rust's `STILL` and `new`)
@@ -104,7 +104,7 @@ abbrev pub from-nonvolatile : (now : Time) (image : Image) → Sensor
 from-nonvolatile now image = copy-image (blank now image new-kept)
 
 -- 01: the stock image
-abbrev pub stock : List ℕ
+abbrev pub stock : Image
 stock = 3 ∷ 20 ∷ 150 ∷ 160 ∷ 150 ∷ 0 ∷ 0 ∷ 162 ∷ 13 ∷ 14 ∷ 128 ∷ 0 ∷ 0 ∷ 0 ∷ 0 ∷ 128 ∷ 128 ∷ 128 ∷ 0 ∷ []
 
 -- 01: having met 0 mV the sensor returns as after a start from its stored bytes, with acceleration and temperature kept and serial pins dead for 3 ms; a function of the moment, the stored bytes and what is kept

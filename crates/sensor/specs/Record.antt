@@ -65,7 +65,7 @@ abbrev pub with-input : Kept → Input → Kept
 with-input k input = record { input = input }
 
 -- the registers with one byte replaced
-abbrev pub with-byte : (registers : Registers) (address : Address) (value : Byte) → List ℕ
+abbrev pub with-byte : (registers : Registers) (address : Address) (value : Byte) → Registers
 with-byte registers address value = set registers address value
 
 -- a register keeps a value
