@@ -11,7 +11,7 @@ use Rattle.calls.specs.declared.types.Call.the-variants as Call
 use Rattle.calls.specs.Facts.{facts}
 use Rattle.calls.specs.Table.{wrong-length, first-found, refusal, unless-refused}
 use Rattle.calls.specs.Theorems.Left.{temperature-accepted, select-accepted}
-use Rattle.writes.specs.Samples.{interaction-deadline}
+use Rattle.samples.specs.Samples.{interaction-deadline}
 use Rattle.bma150.specs.declared.host.Bma150.{Bma150}
 use Rattle.commands.specs.declared.Command.the-variants as Command
 use Rattle.bma150.specs.Called.{Added, Called, adds, number, called, start-number, after-start}

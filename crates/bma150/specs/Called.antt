@@ -19,7 +19,7 @@ use Rattle.sensor.specs.Image.{nonvolatile, from-nonvolatile, stock}
 use Rattle.sensor.specs.Mode as Mode
 use Rattle.sensor.specs.RegisterReads.{peek}
 use Rattle.sensor.specs.Select.{set-selected}
-use Rattle.writes.specs.Samples.{interaction-deadline, sync-local-until}
+use Rattle.samples.specs.Samples.{interaction-deadline, sync-local-until}
 use Rattle.serial.specs.Outputs as Outputs
 use Rattle.serial.specs.SpiEdges.{rising-at, falling-at}
 use Rattle.serial.specs.I2cPins.{i2c-pins-at}

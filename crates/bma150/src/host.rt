@@ -18,6 +18,8 @@ use calls::types::Outcome;
 use calls::types::Timed;
 use deadlines::Deadline;
 use i2c::types::Levels;
+use samples::interaction_deadline;
+use samples::sync_local_until;
 use sensor::image::stock;
 use sensor::types::Sensor;
 use sensor::types::View;
@@ -35,8 +37,6 @@ use waits::supply::set_temperature;
 use waits::supply::without_report;
 use waits::types::Report;
 use waits::types::Served;
-use writes::samples::interaction_deadline;
-use writes::samples::sync_local_until;
 
 // The record, and the last accepted time. Only the calls reach them.
 pub struct Bma150 {

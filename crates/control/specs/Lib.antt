@@ -1,4 +1,4 @@
-pub mod Waits
-pub mod Writes
+pub mod Lengths
+pub mod Kinds
 pub mod Automatic
 pub mod Theorems

@@ -1,5 +1,5 @@
 // The decisions of writes and of automatic control, on plain values (bma150/control.rs).
 pub mod automatic;
+pub mod kinds;
+pub mod lengths;
 pub mod types;
-pub mod waits;
-pub mod writes;

@@ -1,12 +1,12 @@
 // Reads events of the serial pins, a byte each, from standard input and answers each with two bytes (oracle/README.md,
 // "Leaves").
+mod both;
 mod bus;
-mod sensor;
 
 ghost use Prim.Native.Nat.{_+_, _*_, _≤_};
 ghost use lib.ListN.{length};
-use crate::sensor::Sensor;
-use crate::sensor::start;
+use crate::both::Sensor;
+use crate::both::start;
 
 // After a block: the state, and whether more may come.
 struct Turn {

@@ -8,7 +8,7 @@ use lib.ListN.{length, getD}
 use Rattle.time.specs.declared.Time.{Time}
 use Rattle.calls.specs.declared.types.Call.{Call}
 use Rattle.calls.specs.declared.types.Call.the-variants as Call
-use Rattle.writes.specs.Samples.{interaction-deadline}
+use Rattle.samples.specs.Samples.{interaction-deadline}
 use Rattle.bma150.specs.declared.host.Bma150.{Bma150}
 use Rattle.bma150.specs.Called.{Called, called, start-number, after-start, interrupt, output, data-output}
 use Rattle.bma150.specs.Theorems.Added.{view-leaves}

@@ -23,7 +23,7 @@ use Rattle.deadlines.specs.Deadlines.{is-set, is-by, sooner, first, earliest}
 use Rattle.sensor.specs.declared.types.Sensor.{Sensor}
 use Rattle.sensor.specs.Record.{is-off}
 use Rattle.sensor.specs.Image.{from-nonvolatile, stock, shadowing}
-use Rattle.writes.specs.Samples.{samples-run, next-sample, write-end, sample-due, next-deadline, interaction-deadline}
+use Rattle.samples.specs.Samples.{samples-run, next-sample, write-end, sample-due, next-deadline, interaction-deadline}
 use Rattle.sensor.specs.Select.{may-select, selected-to}
 use Rattle.waits.specs.Supply as Supply
 use Rattle.calls.specs.declared.types.Timed.the-variants as Timed

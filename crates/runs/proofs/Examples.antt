@@ -20,13 +20,13 @@ use Rattle.runs.proofs.Lists.{claim}
 use Rattle.nv.specs.Cell as NC
 use Rattle.registers.specs.Access as RA
 use Rattle.deadlines.specs.Deadlines as DD
-use Rattle.control.specs.Writes as CW
+use Rattle.control.specs.Kinds as CW
 use Rattle.spi.specs.Frame as SF
 use Rattle.sensor.specs.Record as BR
 use Rattle.sensor.specs.Image as BI
 use Rattle.sensor.specs.Mode as BC
 use Rattle.writes.specs.Write as BW
-use Rattle.writes.specs.Samples as BS
+use Rattle.samples.specs.Samples as BS
 use Rattle.sensor.specs.Select as BL
 use Rattle.serial.specs.SpiEdges as BE
 use Rattle.waits.specs.Supply as BU

@@ -33,7 +33,7 @@ use Rattle.calls.specs.Table as T
 use Rattle.calls.specs.Theorems.Left.{temperature-accepted, select-accepted, view-accepted}
 use Rattle.sensor.specs.declared.types.View.{View}
 use Rattle.sensor.specs.RegisterReads.{peek}
-use Rattle.writes.specs.Samples.{interaction-deadline}
+use Rattle.samples.specs.Samples.{interaction-deadline}
 use Rattle.waits.specs.declared.types.Report.{Report}
 use Rattle.waits.specs.declared.types.Report.the-variants as Report
 use Rattle.bma150.specs.declared.types.Replied.{Replied}

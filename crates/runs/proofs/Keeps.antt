@@ -28,7 +28,7 @@ use Rattle.sensor.specs.declared.types.View.the-variants as View
 use Rattle.sensor.specs.declared.types.Sensor.{Sensor}
 use Rattle.deadlines.specs.Deadlines.{is-set, is-at}
 use Rattle.control.specs.Automatic.{holds, pauses-again}
-use Rattle.control.specs.Writes as Writes
+use Rattle.control.specs.Kinds as Kinds
 use Rattle.registers.specs.Map.{at, operation, latch-INT}
 use Rattle.i2c.specs.Engine as E
 use Rattle.spi.specs.Frame as F
@@ -36,7 +36,7 @@ use Rattle.sensor.specs.Record.{with-frame, is-off, serial-not-ready, is-quiet,
 use Rattle.sensor.specs.Mode.{criterion, may-sleep, pause-restarted, interrupt-held, pause-if-idle, automatic-control}
 use Rattle.sensor.specs.Record.{put}
 use Rattle.writes.specs.Write.{recounted, interrupts-reset, interrupts-written, tested, slept, image-written, control-written, mode-written, operation-written, register-effect, then-automatic}
-use Rattle.writes.specs.Samples.{caught-up, samples-on-demand, sync-local-until}
+use Rattle.samples.specs.Samples.{caught-up, samples-on-demand, sync-local-until}
 use Rattle.sensor.specs.RegisterReads.{fetched, counts-as-read, byte-read}
 use Rattle.serial.specs.SpiEdges.{spi-listens, moved, shift-output, rise-synced, fall-synced, falling-effect, falling-at}
 use Rattle.serial.specs.I2cPins.{i2c-listens, pins-synced}
@@ -100,7 +100,7 @@ reset-keeps s = then (record { same = refl }) (recounted-keeps _ _)
 
 interrupts-keeps : (s : Sensor) (value : ℕ) → Keeps s (interrupts-written s value)
 unfolding interrupts-written
-interrupts-keeps s value = pick (Writes.resets-interrupts value) (reset-keeps s) (itself s)
+interrupts-keeps s value = pick (Kinds.resets-interrupts value) (reset-keeps s) (itself s)
 
 tested-keeps : (t : SelfTest) (s : Sensor) → Keeps s (tested t s)
 unfolding tested
@@ -116,7 +116,7 @@ slept-keeps Sleep.Stays s now = itself s
 
 image-keeps : (s : Sensor) (value : ℕ) (now : Time) → Keeps s (image-written s value now)
 unfolding image-written
-image-keeps s value now = pick (Writes.copies-image value) (record { same = refl }) (itself s)
+image-keeps s value now = pick (Kinds.copies-image value) (record { same = refl }) (itself s)
 
 put-keeps : (s : Sensor) (address value : ℕ) → Keeps s (put s address value)
 put-keeps s address value = record { same = refl }

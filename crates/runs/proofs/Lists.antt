@@ -17,7 +17,7 @@ use Rattle.calls.specs.declared.types.Call.the-variants as Call
 use Rattle.bma150.specs.declared.host.Bma150.{Bma150}
 use Rattle.sensor.specs.declared.types.Sensor.{Sensor}
 use Rattle.sensor.specs.Record.{is-off}
-use Rattle.writes.specs.Samples.{sync-local-until}
+use Rattle.samples.specs.Samples.{sync-local-until}
 use Rattle.sensor.specs.Image.{image-at, nonvolatile, powered}
 use Rattle.waits.specs.Supply.{without-report, supply-low, supply-ok, returned, cold-return, warm-return, set-supply}
 use Rattle.calls.specs.Facts.{timed-facts, facts}

@@ -24,7 +24,7 @@ use Rattle.sensor.specs.declared.types.Operation.the-variants as Operation
 use Rattle.sensor.specs.declared.types.Sensor.{Sensor}
 use Rattle.sensor.specs.Record.{with-writing, is-off, automatic}
 use Rattle.sensor.specs.Record as Record
-use Rattle.writes.specs.Samples.{write-end, sample-due, next-deadline, interaction-deadline}
+use Rattle.samples.specs.Samples.{write-end, sample-due, next-deadline, interaction-deadline}
 use Rattle.calls.specs.Table as T
 use Rattle.calls.specs.declared.types.Call.{Call}
 use Rattle.calls.specs.declared.types.Kind.the-variants as Kind

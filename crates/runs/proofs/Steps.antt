@@ -5,7 +5,7 @@ use mathlib.Core.Option.{Option, none, some}
 use mathlib.Core.Bool.{Bool, true, false, cond, not, _&&_, _||_}
 use lib.Dec.{leb, ltb, eqb}
 use lib.IntN.{ℤ}
-use Rattle.writes.specs.Samples.{sync-local-until}
+use Rattle.samples.specs.Samples.{sync-local-until}
 use Rattle.sensor.specs.declared.types.Sensor.{Sensor}
 use borrow.Author.Tests.{ltb-true, ltb-false, le-leb, lt-leb}
 use Rattle.time.specs.declared.Time.{Time}
@@ -33,7 +33,7 @@ use Rattle.sensor.specs.declared.types.Supply.{Supply}
 use Rattle.sensor.specs.Record.{with-writing, is-off, serial-not-ready, is-quiet, is-writing, four-wire}
 use Rattle.sensor.specs.Record as Record
 use Rattle.sensor.specs.Image.{with-cell}
-use Rattle.writes.specs.Samples.{interaction-deadline}
+use Rattle.samples.specs.Samples.{interaction-deadline}
 use Rattle.sensor.specs.Select.{may-select}
 use Rattle.serial.specs.SpiEdges.{spi-listens}
 use Rattle.serial.specs.I2cPins.{i2c-listens, ones-for}

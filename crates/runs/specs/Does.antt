@@ -21,7 +21,7 @@ use Rattle.calls.specs.declared.types.Call.the-variants as Call
 use Rattle.sensor.specs.declared.types.Kept.{Kept}
 use Rattle.sensor.specs.declared.types.Sensor.{Sensor}
 use Rattle.sensor.specs.Record.{with-input, is-quiet, four-wire}
-use Rattle.writes.specs.Samples.{sync-local-until}
+use Rattle.samples.specs.Samples.{sync-local-until}
 use Rattle.serial.specs.SpiEdges.{spi-listens, rise-synced}
 use Rattle.serial.specs.I2cPins.{i2c-listens, ones-for, pins-synced}
 

@@ -13,7 +13,7 @@ use Rattle.filter.specs.declared.Filter.{Filter}
 use Rattle.filter.specs.Filter.{window, pushed, answered}
 use Rattle.registers.specs.Map.{at, acc-lsb, acc-msb, temp, status, control, measurement, operation, offset-lsb, offset-msb, new-data, self-test-1, range, new-data-INT, wake-up, with-st-result, without-self-test-0}
 use Rattle.registers.specs.Codes.{offset, code, code-low, code-high, temperature}
-use Rattle.control.specs.Waits.{acquisition-cycles}
+use Rattle.control.specs.Lengths.{acquisition-cycles}
 use Rattle.interrupts.specs.declared.Interrupts.{Interrupts}
 use Rattle.interrupts.specs.State as I
 use Rattle.sampling.specs.declared.types.Input.{Input}

@@ -20,7 +20,7 @@ use Rattle.reads.specs.Reads as R
 use Rattle.deadlines.specs.declared.Deadline.the-variants.{At, Never}
 use Rattle.deadlines.specs.declared.Deadlines.{Deadlines}
 use Rattle.deadlines.specs.Deadlines.{never, with-wake, with-serial-ready}
-use Rattle.control.specs.Waits.{acquisition-delay}
+use Rattle.control.specs.Lengths.{acquisition-delay}
 use Rattle.registers.specs.Map.{at, chip-id, version, measurement, operation, bandwidth, shadow-dis}
 use Rattle.registers.specs.Access.{stored}
 use Rattle.sampling.specs.declared.types.Test.the-variants as Test

@@ -17,7 +17,7 @@ use Rattle.reads.specs.Reads as R
 use Rattle.deadlines.specs.declared.Deadline.{Deadline}
 use Rattle.deadlines.specs.declared.Deadline.the-variants.{At, Never}
 use Rattle.deadlines.specs.Deadlines.{is-set, with-wake, with-pause, with-quiet, with-irq-hold, with-image}
-use Rattle.control.specs.Waits.{acquisition-delay, pauses, pause-length}
+use Rattle.control.specs.Lengths.{acquisition-delay, pauses, pause-length}
 use Rattle.control.specs.declared.automatic.Activity.{Activity}
 use Rattle.control.specs.Automatic.{holds, pauses-again, may-pause}
 use Rattle.registers.specs.Map.{at, measurement, operation, bandwidth, latch-INT, wake-up-pause, new-data-INT}

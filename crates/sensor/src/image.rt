@@ -137,7 +137,7 @@ fn acquiring(now: Time) -> Deadlines
     ensures { λ r. ⌜ r ≡ Im.acquiring now ⌝ }
 {
     let d = Deadlines::never();
-    let length = control::waits::acquisition_delay(Duration::from_millis(3));
+    let length = control::lengths::acquisition_delay(Duration::from_millis(3));
     d.with_wake(Deadline::At(now.plus(length)))
 }
 

@@ -19,7 +19,7 @@ use Rattle.sensor.specs.declared.types.Fetched.{Fetched}
 use Rattle.sensor.specs.declared.types.Sensor.{Sensor}
 use Rattle.sensor.specs.Record.{with-frame, with-i2c, with-reads, is-off, serial-not-ready, is-quiet}
 use Rattle.writes.specs.Write.{write-register}
-use Rattle.writes.specs.Samples.{sync-local-until}
+use Rattle.samples.specs.Samples.{sync-local-until}
 use Rattle.sensor.specs.RegisterReads.{prepare-read, read-began}
 
 -- ---- I2C report (`i2c_pins_at`)

@@ -17,7 +17,7 @@ use Rattle.sensor.specs.declared.types.Fetched.{Fetched}
 use Rattle.sensor.specs.declared.types.Sensor.{Sensor}
 use Rattle.sensor.specs.Record.{with-frame, is-off, serial-not-ready, is-quiet, four-wire}
 use Rattle.writes.specs.Write.{write-register}
-use Rattle.writes.specs.Samples.{sync-local-until}
+use Rattle.samples.specs.Samples.{sync-local-until}
 use Rattle.sensor.specs.RegisterReads.{prepare-read, read-began}
 
 -- ---- the output moves (`shift_output`)

@@ -6,11 +6,11 @@ use i2c::types::Action;
 use i2c::types::Edge;
 use i2c::types::Levels;
 use i2c::types::Step;
+use samples::sync_local_until;
 use sensor::types::Fetched;
 use sensor::types::Sensor;
 use spi::types::Sent;
 use time::Time;
-use writes::samples::sync_local_until;
 use writes::write::write_register;
 
 pub fn i2c_listens(sensor: Sensor) -> bool

@@ -1,6 +1,7 @@
 // SPI edges (`rising_at`, `falling_at`).
 ghost use mathlib.Core.Path.{_≡_};
 ghost use Rattle.serial.specs.SpiEdges as Z;
+use samples::sync_local_until;
 use sensor::types::Fetched;
 use sensor::types::Sensor;
 use spi::types::Clocked;
@@ -9,7 +10,6 @@ use spi::types::Shift;
 use spi::types::Taken;
 use spi::types::Write;
 use time::Time;
-use writes::samples::sync_local_until;
 use writes::write::write_register;
 
 fn showing(f: Fetched) -> Sensor

@@ -21,7 +21,7 @@ use Rattle.sensor.specs.declared.types.Sensor.{Sensor}
 use Rattle.sensor.specs.Record.{with-registers, with-sampling, with-deadlines}
 use Rattle.sensor.specs.Image.{copy-image}
 use Rattle.sensor.specs.Mode.{criterion, start-acquisition, automatic-control}
-use Rattle.writes.specs.Samples.{next-sample, after-edges}
+use Rattle.samples.specs.Samples.{next-sample, after-edges}
 use Rattle.waits.specs.Supply.{without-report, write-over}
 
 -- dead pins, hold and quiet that end now are over

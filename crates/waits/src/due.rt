@@ -7,13 +7,13 @@ use crate::types::Report;
 use crate::types::Served;
 use deadlines::Deadline;
 use registers::fields::CONTROL;
+use samples::after_edges;
+use samples::next_sample;
 use sensor::types::Operation;
 use sensor::types::Sensor;
 use time::Clock;
 use time::Duration;
 use time::Time;
-use writes::samples::after_edges;
-use writes::samples::next_sample;
 
 // Automatic mode verifies at the end of a scan or of a hold.
 fn verifies(sample: bool, scan: bool, hold_ended: bool) -> bool

@@ -15,7 +15,7 @@ use Rattle.control.specs.declared.types.SelfTest.{SelfTest}
 use Rattle.control.specs.declared.types.SelfTest.the-variants as SelfTest
 use Rattle.control.specs.declared.types.Sleep.{Sleep}
 use Rattle.control.specs.declared.types.Sleep.the-variants as Sleep
-use Rattle.control.specs.Writes as Writes
+use Rattle.control.specs.Kinds as Kinds
 use Rattle.registers.specs.Map.{at, status, control, measurement, operation, bandwidth, without-st-result}
 use Rattle.sampling.specs.declared.types.Test.the-variants as Test
 use Rattle.sampling.specs.Phase.{with-test}
@@ -40,7 +40,7 @@ interrupts-reset s =
     (automatic s)
 
 unfoldable pub interrupts-written : Sensor → (value : Byte) → Sensor
-interrupts-written s value = if Writes.resets-interrupts value then interrupts-reset s else s
+interrupts-written s value = if Kinds.resets-interrupts value then interrupts-reset s else s
 
 -- the self test lasts four phases and clears st_result until it ends
 unfoldable pub tested : SelfTest → Sensor → Sensor
@@ -57,16 +57,16 @@ slept Sleep.Stays s now = s
 
 -- an image copy lasts 300 µs
 unfoldable pub image-written : Sensor → (value : Byte) (now : Time) → Sensor
-image-written s value now = if Writes.copies-image value then with-deadlines s (with-image (s .deadlines) (At (plus now (from-micros 300)))) else s
+image-written s value now = if Kinds.copies-image value then with-deadlines s (with-image (s .deadlines) (At (plus now (from-micros 300)))) else s
 
 -- sleep or wake, then the copy
 abbrev pub sleep-written : Sensor → (value : Byte) (now : Time) → Sensor
-sleep-written s value now = image-written (slept (Writes.sleep (s .sampling .asleep) value) s now) value now
+sleep-written s value now = image-written (slept (Kinds.sleep (s .sampling .asleep) value) s now) value now
 
 -- the fields of 0a in the Rust's order
 abbrev pub control-written : Sensor → (value : Byte) (now : Time) → Sensor
 control-written s value now =
-    sleep-written (tested (Writes.self-test (at (s .registers) control) value) (interrupts-written (put s control (Writes.kept value)) value)) value now
+    sleep-written (tested (Kinds.self-test (at (s .registers) control) value) (interrupts-written (put s control (Kinds.kept value)) value)) value now
 
 -- ---- 14, 15, 0d and 0f
 
@@ -80,7 +80,7 @@ mode-written s turns = if turns then with-deadlines (recounted s true) (with-irq
 
 abbrev pub operation-written : Sensor → (value : Byte) → Sensor
 operation-written s value =
-    mode-written (with-reads (put s operation value) (shadowing (s .reads) value)) (Writes.turns-automatic (at (s .registers) operation) value)
+    mode-written (with-reads (put s operation value) (shadowing (s .reads) value)) (Kinds.turns-automatic (at (s .registers) operation) value)
 
 abbrev pub durations-written : Sensor → (address : Address) (value : Byte) → Sensor
 durations-written s address value = with-interrupts (put s address value) (I.configure (s .interrupts) (set (s .registers) address value))
@@ -118,7 +118,7 @@ write-effect WriteKind.Plain s address value now = then-automatic WriteKind.Plai
 
 -- which of these a write is (01, "Registers")
 abbrev pub write-kind : Sensor → (address : Address) (value : Byte) → WriteKind
-write-kind s address value = Writes.kind-of-write address value (gate s) (is-writing s)
+write-kind s address value = Kinds.kind-of-write address value (gate s) (is-writing s)
 
 abbrev pub write-register : Sensor → (address : Address) (value : Byte) (now : Time) → Sensor
 write-register s address value now = write-effect (write-kind s address value) s address value now

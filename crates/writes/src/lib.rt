@@ -1,3 +1,2 @@
-// Register writes (bma150/control.rs, `write_register`), next due, and samples up to a moment.
-pub mod samples;
+// Register writes (bma150/control.rs, `write_register`).
 pub mod write;

@@ -1,16 +1,16 @@
 // Register writes (bma150/control.rs, `write_register`).
 ghost use mathlib.Core.Path.{_≡_};
 ghost use Rattle.writes.specs.Write as W;
+use control::kinds::copies_image;
+use control::kinds::kept;
+use control::kinds::kind_of_write;
+use control::kinds::resets_interrupts;
+use control::kinds::self_test;
+use control::kinds::sleep;
+use control::kinds::turns_automatic;
 use control::types::SelfTest;
 use control::types::Sleep;
 use control::types::WriteKind;
-use control::writes::copies_image;
-use control::writes::kept;
-use control::writes::kind_of_write;
-use control::writes::resets_interrupts;
-use control::writes::self_test;
-use control::writes::sleep;
-use control::writes::turns_automatic;
 use deadlines::Deadline;
 use nv::WriteCycle;
 use registers::fields::CONTROL;

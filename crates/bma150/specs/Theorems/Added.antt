@@ -11,7 +11,7 @@ use Rattle.calls.specs.declared.types.Call.the-variants as Call
 use Rattle.calls.specs.Table.{unless-refused}
 use Rattle.calls.specs.Theorems.Left.{accepted-is, view-accepted}
 use Rattle.sensor.specs.RegisterReads.{peek}
-use Rattle.writes.specs.Samples.{interaction-deadline}
+use Rattle.samples.specs.Samples.{interaction-deadline}
 use Rattle.waits.specs.declared.types.Report.{Report}
 use Rattle.waits.specs.declared.types.Report.the-variants as Report
 use Rattle.bma150.specs.declared.host.Bma150.{Bma150}

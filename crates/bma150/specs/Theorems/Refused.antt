@@ -12,7 +12,7 @@ use Rattle.calls.specs.declared.types.Call.{Call}
 use Rattle.calls.specs.Theorems.Found.{Fault, First}
 use Rattle.calls.specs.Theorems.Exactly.{faults, start-faults, refused-only, refused-whole, start-refused-only, start-refused-whole}
 use Rattle.calls.specs.Theorems.Left.{refused-is}
-use Rattle.writes.specs.Samples.{interaction-deadline}
+use Rattle.samples.specs.Samples.{interaction-deadline}
 use Rattle.bma150.specs.declared.host.Bma150.{Bma150}
 use Rattle.bma150.specs.Called.{Added, put-in, leaves, adds, number, called, start-number}
 

@@ -8,7 +8,7 @@ use Rattle.registers.specs.declared.access.Gate.{Gate}
 use Rattle.registers.specs.Access.{ignores, stored, begins}
 use Rattle.control.specs.declared.types.WriteKind.{WriteKind}
 use Rattle.control.specs.declared.types.WriteKind.the-variants as WriteKind
-use Rattle.control.specs.Writes.{written-control, written-register, kind-of-write}
+use Rattle.control.specs.Kinds.{written-control, written-register, kind-of-write}
 
 -- it begins a stored write
 unfoldable pub is-stored : WriteKind → Bool

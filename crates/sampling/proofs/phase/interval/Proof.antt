@@ -1,5 +1,5 @@
 use mathlib.Core.Path.{sym, _∙_}
-use Rattle.control.specs.Waits.{acquisition-cycles}
+use Rattle.control.specs.Lengths.{acquisition-cycles}
 use borrow.Author.Tests.{eq-eqb, ne-eqb}
 use borrow.Author.Needs.{needs}
 use Rattle.sampling.proofs.phase.interval.Statement.{statement}

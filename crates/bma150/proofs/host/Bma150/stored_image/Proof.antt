@@ -1,6 +1,6 @@
 use Rattle.calls.specs.Theorems.Left.{buffer-length}
 use Rattle.calls.specs.Table.{refusal, unless-refused}
-use Rattle.writes.specs.Samples.{interaction-deadline}
+use Rattle.samples.specs.Samples.{interaction-deadline}
 use Rattle.bma150.specs.Called.{adds}
 use Rattle.bma150.specs.Called.{put-in}
 use mathlib.Core.Path.{sym, _∙_}

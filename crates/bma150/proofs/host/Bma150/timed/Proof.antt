@@ -1,4 +1,4 @@
-use Rattle.writes.specs.Samples.{interaction-deadline}
+use Rattle.samples.specs.Samples.{interaction-deadline}
 use Rattle.sensor.specs.declared.types.Sensor.{Sensor}
 use Rattle.bma150.specs.Called.{effect}
 use Rattle.calls.specs.Table.{number, refusal, unless-refused}
