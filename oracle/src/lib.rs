@@ -6,6 +6,7 @@ pub mod command;
 mod devices;
 mod error;
 pub mod generator;
+pub mod host;
 pub mod leaves;
 pub mod line;
 pub mod model;

@@ -1,7 +1,5 @@
-pub mod Put
 pub mod Text
 pub mod Line
 pub mod Run
 pub mod Block
-pub mod Pieces
 pub mod Theorems

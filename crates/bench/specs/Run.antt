@@ -1,36 +1,32 @@
--- The run over a whole input, as turns.
-use mathlib.Core.Bool.{Bool, false}
-use mathlib.Core.List.{List, [], _++_}
+-- The bench program as a machine on bytes: a command and its line.
+use mathlib.Core.Bool.{Bool}
+use mathlib.Core.List.{List}
 use Prim.Native.Nat.{ℕ}
-use lib.Dec.{ltb}
-use lib.ListN.{length, drop, getD}
-use Rattle.laws.specs.Notation.{if_then_else_}
-use Rattle.laws.specs.Iterate.{iterate}
+use lib.ListN.{getD}
+use Rattle.machine.specs.Machine as M
+use Rattle.machine.specs.Machine.{Took, Machine, Running}
 use Rattle.commands.specs.declared.Command.{Command}
-use Rattle.commands.specs.Decode.{decoded, image, size, is-bad}
+use Rattle.commands.specs.Decode.{decoded, image, wants, size, is-bad}
 use Rattle.bma150.specs.declared.host.Bma150.{Bma150}
-use Rattle.bench.specs.Line.{step, said}
+use Rattle.bma150.specs.Called.{Called}
+use Rattle.bench.specs.Line.{commanded, line}
 
--- the bench between two commands: its sensor, the input that is left, the text so far, and whether it has stopped
-pub record Bench : Type 0 where
-  pub sensor : Bma150
-  pub left : List ℕ
-  pub text : List ℕ
-  pub stop : Bool
+-- the command c, whose first byte is b, does k: its line is written, and refusal 7 stops the bench
+abbrev pub took : (trace : Bool) (b : ℕ) → Command → Called → Took Bma150
+took trace b c k = record { state = k .sensor; size = size c; said = line trace b k; stop = is-bad c }
 
-abbrev pub bench : Bma150 → List ℕ → List ℕ → Bool → Bench
-bench s l t z = record { sensor = s; left = l; text = t; stop = z }
+-- the last place in the buffer of 65536 bytes at which a line surely fits
+abbrev pub room : ℕ
+room = 65408
 
--- the command c at the head of what is left, done; refusal 7 stops the bench
-abbrev pub done : (trace : Bool) → Bench → Command → Bench
-done trace b c =
-    bench (step (b .sensor) c (image (b .left))) (drop (size c) (b .left))
-    (b .text ++ said trace (getD (b .left) 0 0) (b .sensor) c (image (b .left))) (is-bad c)
+-- the command at the head of the bytes, whose first byte says how many it has
+abbrev pub bench : (trace : Bool) → Machine Bma150
+bench trace = record {
+  wants = wants;
+  takes = λ s l. took trace (getD l 0 0) (decoded l) (commanded s (decoded l) (image l));
+  room = room;
+}
 
--- a turn: nothing where the bench has stopped or no input is left, else the next command
-unfoldable pub turn : (trace : Bool) → Bench → Bench
-turn trace b = if b .stop then b else if ltb 0 (length (b .left)) then done trace b (decoded (b .left)) else b
-
--- the whole run: a turn for each byte is enough, since each takes one at least
-unfoldable pub whole : (trace : Bool) → Bma150 → (l : List ℕ) → Bench
-whole trace s l = iterate (length l) (turn trace) (bench s l [] false)
+-- the run over a whole input
+abbrev pub whole : (trace : Bool) → Bma150 → (l : List ℕ) → Running Bma150
+whole trace s l = M.whole (bench trace) s l

@@ -1,5 +1,4 @@
-pub mod Put
 pub mod Text
-pub mod Turns
-pub mod Blocks
+pub mod Lawful
+pub mod Loop
 pub mod Whole

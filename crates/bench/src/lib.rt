@@ -3,7 +3,6 @@ ghost use mathlib.Core.Path.{_≡_};
 ghost use Prim.Native.Nat.{_≤_};
 ghost use lib.ListN.{length, drop};
 ghost use lib.Seq.{sets};
-ghost use Rattle.bench.specs.Run.{Bench};
 ghost use Rattle.bench.specs.Block as B;
 use crate::lines::write_line;
 use crate::steps::serve;
@@ -11,6 +10,7 @@ use bma150::host::Bma150;
 use commands::decode;
 use commands::is_bad;
 use commands::size;
+use commands::wants;
 
 mod lines;
 mod steps;
@@ -25,14 +25,18 @@ pub struct Ran {
     pub stop: bool,
 }
 
-// The bytes that a command may want: the longest has 32; any number once no more come.
-pub fn least(over: bool) -> usize
-    ensures { λ r. ⌜ r ≡ B.least over ⌝ }
+// Whether the command at `at` is whole: its bytes are there, or no more come and one is.
+pub fn is_whole(input: &[u8], at: usize, over: bool) -> bool
+    ensures { λ r. ⌜ r ≡ B.is-whole over (drop at (now (input .entry))) ⌝ }
 {
-    if over {
-        return 1;
+    if at < input.len() {
+        if over {
+            return true;
+        }
+        let b = input[at];
+        return wants(b) <= input.len() - at;
     }
-    32
+    false
 }
 
 fn after_block(sensor: Bma150, read: usize, written: usize, stop: bool) -> Ran
@@ -46,18 +50,17 @@ fn after_block(sensor: Bma150, read: usize, written: usize, stop: bool) -> Ran
     }
 }
 
-// The commands of a block of input, while enough bytes are left and a line fits.
+// The commands of a block of input, while a whole one is left and a line fits.
 pub fn run(input: &[u8], over: bool, trace: bool, out: &mut [u8; 65536], sensor: Bma150) -> Ran
     ensures { λ r. ⌜ r ≡ B.answer (length (now (input .entry))) (B.block trace over sensor (now (input .entry))) ⌝ }
     ensures { λ r. ⌜ now (out .exit) ≡ sets (now (out .entry)) 0 (B.block trace over sensor (now (input .entry)) .text) ⌝ }
     ensures { λ r. ⌜ B.block trace over sensor (now (input .entry)) .left ≡ drop (r .read) (now (input .entry)) ⌝ }
     ensures { λ r. ⌜ (r .read ≤ length (now (input .entry))) × (r .written ≤ 65536) ⌝ }
 {
-    let enough = least(over);
     let mut at: usize = 0;
     let mut p: usize = 0;
     let mut n = sensor;
-    while enough <= input.len() - at {
+    while is_whole(input, at, over) {
         if 65408 < p {
             return after_block(n, at, p, false);
         }

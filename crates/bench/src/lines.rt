@@ -6,7 +6,7 @@ ghost use Rattle.deadlines.specs.Deadlines.{moment};
 ghost use Rattle.calls.specs.Table as R;
 ghost use Rattle.bma150.specs.Values as Vals;
 ghost use Rattle.bma150.specs.Called as K;
-ghost use Rattle.bench.specs.Put.{Put};
+ghost use Rattle.machine.specs.Put.{Put};
 ghost use Rattle.bench.specs.Text as T;
 ghost use Rattle.bench.specs.Line as L;
 use crate::text::put;

@@ -3,7 +3,7 @@ ghost use mathlib.Core.Path.{_≡_};
 ghost use mathlib.Core.List.{[], _∷_};
 ghost use Prim.Native.Nat.{_+_, _≤_, _<_};
 ghost use lib.ListN.{length};
-ghost use Rattle.bench.specs.Put.{Put};
+ghost use Rattle.machine.specs.Put.{Put};
 ghost use Rattle.bench.specs.Text as T;
 
 pub(crate) fn put(out: &mut [u8; 65536], o: usize, b: u8) -> usize

@@ -1,1 +1,4 @@
+pub mod Turn
 pub mod Loop
+pub mod Live
+pub mod Example

@@ -1,28 +1,42 @@
-// The bench program's loop: standard input to standard output in blocks of 64 KiB, a thin loop over `bench::run`.
+// The bench program's loop: standard input to standard output, a turn at a time. A turn reads, or serves the commands that are there and hands
+// their lines to `write`.
 ghost use mathlib.Core.Path.{_≡_};
 ghost use mathlib.Core.Bool.{false};
 ghost use Prim.Native.Nat.{_+_, _-_, _≤_};
 ghost use lib.ListN.{length, take, drop};
-ghost use Rattle.bench.specs.Put.{Put};
+ghost use Rattle.machine.specs.Put.{Put};
+ghost use Rattle.bench.specs.Block.{is-whole};
 ghost use Rattle.bench_stream.specs.Loop as S;
+use bench::is_whole;
 use bench::run;
 use bma150::host::Bma150;
 use sensor::image::stock;
 use time::Time;
 
-// Between two blocks: the bytes from `at` to `have` are yet to be read; `over`: no more come; `stop`: refusal 7 was met.
+// Between two turns: the bytes from `at` to `have` are yet to be served; `over`: no more come; `stop`: refusal 7 was met; `unread`: a
+// read failed; `unwritten`: a write failed; `written`: the bytes of text that this turn made.
 pub struct Turn {
     pub at: usize,
     pub have: usize,
     pub over: bool,
     pub stop: bool,
+    pub unread: bool,
+    pub unwritten: bool,
+    pub written: usize,
     pub sensor: Bma150,
 }
 
-fn flush(out: &[u8], o: usize)
+// What a read brought; nothing at the input's end.
+struct Filled {
+    got: usize,
+    failed: bool,
+}
+
+// Hands the first o bytes of text to `write`, and answers whether it took them.
+fn flush(out: &[u8], o: usize) -> bool
     requires { ⌜ o ≤ length (now out) ⌝ }
 {
-    io::write_all(1, &out[..o]);
+    io::write_all(1, &out[..o])
 }
 
 // Moves the bytes from `at` to `have` to the front, and answers how many they are.
@@ -40,84 +54,122 @@ fn keep(buf: &mut [u8], at: usize, have: usize) -> usize
 }
 
 // Reads once, after the kept bytes.
-fn fill(buf: &mut [u8], kept: usize) -> usize
+fn fill(buf: &mut [u8], kept: usize) -> Filled
     requires { ⌜ kept ≤ length (now buf) ⌝ }
-    ensures { λ r. ⌜ kept + r ≤ length (now (buf .entry)) ⌝ }
+    ensures { λ r. ⌜ kept + r .got ≤ length (now (buf .entry)) ⌝ }
     ensures { λ _. ⌜ take kept (now (buf .exit)) ≡ take kept (now (buf .entry)) ⌝ }
 {
     let got = libc::read(0, &mut buf[kept..]);
-    io::count(got, &buf[kept..])
+    Filled {
+        got: io::count(got, &buf[kept..]),
+        failed: got < 0,
+    }
 }
 
-// More input, with the kept bytes moved to the front; a read of nothing is the input's end.
+// More input, with the kept bytes moved to the front. A read of nothing is the input's end; a read that fails is not.
 fn more(buf: &mut [u8; 65536], trace: bool, t: Turn) -> Turn
     requires { ⌜ (t .at ≤ t .have) × (t .have ≤ 65536) × (t .over ≡ false) × (t .stop ≡ false) ⌝ }
-    ensures { λ r. ⌜ (r .at ≤ r .have) × (r .have ≤ 65536) ⌝ }
-    ensures { λ r. ⌜ S.Onward trace t (now (buf .entry)) r (now (buf .exit)) ⌝ }
+    requires { ⌜ is-whole false (S.kept-of t (now buf)) ≡ false ⌝ }
+    ensures { λ r. ⌜ (r .at ≤ r .have) × (r .have ≤ 65536) × (r .written ≡ 0) ⌝ }
+    ensures { λ r. ⌜ S.Read trace t (now (buf .entry)) r (now (buf .exit)) ⌝ }
 {
     let at = t.at;
     let have = t.have;
     let kept = keep(buf, at, have);
-    let got = fill(buf, kept);
+    let f = fill(buf, kept);
+    let got = f.got;
     let s = t.sensor;
+    if f.failed {
+        return Turn {
+            at: 0,
+            have: kept,
+            over: false,
+            stop: false,
+            unread: true,
+            unwritten: false,
+            written: 0,
+            sensor: s,
+        };
+    }
     Turn {
         at: 0,
         have: kept + got,
         over: got == 0,
         stop: false,
+        unread: false,
+        unwritten: false,
+        written: 0,
         sensor: s,
     }
 }
 
-// A block on the kept bytes.
+// A block on the kept bytes. Its text is handed to `write`; a write that fails ends the loop.
 fn commands(buf: &[u8], out: &mut [u8; 65536], trace: bool, t: Turn) -> Turn
-    requires { ⌜ (t .at ≤ t .have) × (t .have ≤ length (now buf)) × (t .stop ≡ false) ⌝ }
-    ensures { λ r. ⌜ (r .at ≤ r .have) × (r .have ≡ t .have) ⌝ }
-    ensures { λ r. ⌜ S.Onward trace t (now (buf .entry)) r (now (buf .entry)) ⌝ }
+    requires { ⌜ (t .at ≤ t .have) × (t .have ≤ length (now buf)) × (t .stop ≡ false) × S.Enough t (now buf) ⌝ }
+    ensures { λ r. ⌜ (r .at ≤ r .have) × (r .have ≡ t .have) × (r .written ≤ 65536) ⌝ }
+    ensures { λ r. ⌜ S.Stepped trace t (now (buf .entry)) r (now (buf .entry)) (now (out .exit)) ⌝ }
 {
     let at = t.at;
     let have = t.have;
     let over = t.over;
     let s = t.sensor;
     let r = run(&buf[at..have], over, trace, out, s);
-    let w = r.written;
-    flush(out, w);
     let n = r.sensor;
+    let taken = flush(out, r.written);
     Turn {
         at: at + r.read,
         have: have,
         over: over,
         stop: r.stop,
+        unread: false,
+        unwritten: !taken,
+        written: r.written,
         sensor: n,
     }
 }
 
-// Input while a command may want more than is kept, else a block.
+// Whether a whole command is kept.
+fn ready(buf: &[u8], at: usize, have: usize) -> bool
+    requires { ⌜ (at ≤ have) × (have ≤ length (now buf)) ⌝ }
+    ensures { λ r. ⌜ r ≡ is-whole false (S.kept (now (buf .entry)) at have) ⌝ }
+{
+    is_whole(&buf[at..have], 0, false)
+}
+
+// A block where a whole command is kept or no more comes, else input.
 fn step(buf: &mut [u8; 65536], out: &mut [u8; 65536], trace: bool, t: Turn) -> Turn
-    requires { ⌜ (t .at ≤ t .have) × (t .have ≤ 65536) ⌝ }
-    ensures { λ r. ⌜ (r .at ≤ r .have) × (r .have ≤ 65536) ⌝ }
-    ensures { λ r. ⌜ S.Onward trace t (now (buf .entry)) r (now (buf .exit)) ⌝ }
+    requires { ⌜ (t .at ≤ t .have) × (t .have ≤ 65536) × (t .stop ≡ false) ⌝ }
+    ensures { λ r. ⌜ (r .at ≤ r .have) × (r .have ≤ 65536) × (r .written ≤ 65536) ⌝ }
+    ensures { λ r. ⌜ S.Stepped trace t (now (buf .entry)) r (now (buf .exit)) (now (out .exit)) ⌝ }
+{
+    let at = t.at;
+    let have = t.have;
+    if t.over {
+        return commands(buf, out, trace, t);
+    }
+    if ready(buf, at, have) {
+        return commands(buf, out, trace, t);
+    }
+    more(buf, trace, t)
+}
+
+// Whether something is left to do.
+fn goes_on(t: Turn) -> bool
+    ensures { λ r. ⌜ r ≡ S.goes-on t ⌝ }
 {
     let at = t.at;
     let have = t.have;
     if t.stop {
-        return t;
+        return false;
     }
-    if t.over {
-        return commands(buf, out, trace, t);
+    if t.unread {
+        return false;
     }
-    if have - at < 32 {
-        return more(buf, trace, t);
-    }
-    commands(buf, out, trace, t)
-}
-
-fn goes_on(t: Turn) -> bool {
-    if t.stop {
+    if t.unwritten {
         return false;
     }
     if t.over {
-        return t.at < t.have;
+        return at < have;
     }
     true
 }
@@ -133,13 +185,16 @@ fn begin() -> Turn
         have: 0,
         over: false,
         stop: false,
+        unread: false,
+        unwritten: false,
+        written: 0,
         sensor: s,
     }
 }
 
 // Nothing says that the input ends, so the loop counts its turns down from a number that no run uses up.
 fn turns(buf: &mut [u8; 65536], out: &mut [u8; 65536], trace: bool) -> Turn
-    ensures { λ r. ⌜ S.History trace (S.between-of r (now (buf .exit))) ⌝ }
+    ensures { λ r. ⌜ S.Ended trace r ⌝ }
 {
     let mut n = u64::MAX;
     let mut t = begin();
@@ -150,11 +205,29 @@ fn turns(buf: &mut [u8; 65536], out: &mut [u8; 65536], trace: bool) -> Turn
     t
 }
 
+// A read or a write that failed, said on standard error.
+fn complain(t: Turn) {
+    if t.unread {
+        io::write_all(
+            2,
+            b"bench: a read of standard input failed; the commands before it are answered\n",
+        );
+    }
+    if t.unwritten {
+        io::write_all(
+            2,
+            b"bench: a write to standard output failed; lines are missing\n",
+        );
+    }
+}
+
 // Commands from standard input, lines to standard output; the answer is the loop's last state.
 pub fn stream(trace: bool) -> Turn
     ensures { λ r. ⌜ S.Ended trace r ⌝ }
 {
     let mut buf = [0; 65536];
     let mut out = [0; 65536];
-    turns(&mut buf, &mut out, trace)
+    let t = turns(&mut buf, &mut out, trace);
+    complain(t);
+    t
 }

@@ -148,6 +148,31 @@ decode-01-to-05 c l =
 unfoldable pub decoded : List ℕ → Command
 decoded l = if ltb 0 (length l) then decode-01-to-05 (byte-at 0 l) l else Command.Bad
 
+-- ---- how many bytes a command has that begins with the byte c; an unknown byte is whole at once
+
+-- 06 to 0b
+unfoldable pub wants-06-to-0b : ℕ → ℕ
+wants-06-to-0b c =
+    if eqb c 0x06 then 2
+    else if eqb c 0x07 then 14
+    else if eqb c 0x08 then 13
+    else if eqb c 0x09 then 14
+    else if eqb c 0x0a then 13
+    else if eqb c 0x0b then 2
+    else 1
+
+-- 01 to 05; another byte goes to the definition above
+unfoldable pub wants : ℕ → ℕ
+wants c =
+    if eqb c 0x01 then 32
+    else if eqb c 0x02 then 25
+    else if eqb c 0x03 then 5
+    else if eqb c 0x04 then 15
+    else if eqb c 0x05 then 13
+    else wants-06-to-0b c
+
+-- ---- how many bytes a command takes
+
 -- how many bytes the command of a timed call is: its byte, T and the operands
 unfoldable pub timed-size : Timed → ℕ
 timed-size (Timed.Accelerations x y z) = 25

@@ -322,3 +322,49 @@ pub fn is_bad(c: Command) -> bool
         Command::Bad => true,
     }
 }
+
+fn wants_06_to_0b(c: u8) -> usize
+    ensures { λ r. ⌜ r ≡ D.wants-06-to-0b c ⌝ }
+{
+    if c == 6 {
+        return 2;
+    }
+    if c == 7 {
+        return 14;
+    }
+    if c == 8 {
+        return 13;
+    }
+    if c == 9 {
+        return 14;
+    }
+    if c == 10 {
+        return 13;
+    }
+    if c == 11 {
+        return 2;
+    }
+    1
+}
+
+// How many bytes a command has that begins with this byte.
+pub fn wants(c: u8) -> usize
+    ensures { λ r. ⌜ r ≡ D.wants c ⌝ }
+{
+    if c == 1 {
+        return 32;
+    }
+    if c == 2 {
+        return 25;
+    }
+    if c == 3 {
+        return 5;
+    }
+    if c == 4 {
+        return 15;
+    }
+    if c == 5 {
+        return 13;
+    }
+    wants_06_to_0b(c)
+}

@@ -20,7 +20,9 @@ use Rattle.commands.specs.declared.Command.the-variants as Command
 use Rattle.commands.specs.Decode.{decoded, image}
 use Rattle.bench.specs.Line as L
 use Rattle.laws.specs.Iterate.{iterate}
-use Rattle.bench.specs.Run.{Bench, bench, turn, whole}
+use Rattle.machine.specs.Machine as M
+use Rattle.machine.specs.Machine.{Running, running, turn}
+use Rattle.bench.specs.Run.{bench, whole}
 use Rattle.printed.specs.Printed.{Alike, Printed}
 
 -- ---- what a line shows of a sensor
@@ -102,14 +104,14 @@ module _ (s t : Bma150) (alike : Alike s t) where
 -- ---- a run
 
 -- two benches that differ in the sensor alone, and not in what it answers
-record Beside (b d : Bench) : Type 0 where
-  sensors : Alike (b .sensor) (d .sensor)
+record Beside (b d : Running Bma150) : Type 0 where
+  sensors : Alike (b .state) (d .state)
   left : b .left ≡ d .left
   text : b .text ≡ d .text
   stop : b .stop ≡ d .stop
 
 module _ (trace : Bool) where
-  turned : (s t : Bma150) (l u : List ℕ) (z x : Bool) → ltb 0 (length l) ≡ x → Alike s t → Beside (turn trace (bench s l u z)) (turn trace (bench t l u z))
+  turned : (s t : Bma150) (l u : List ℕ) (z x : Bool) → ltb 0 (length l) ≡ x → Alike s t → Beside (turn (bench trace) (running s l u z)) (turn (bench trace) (running t l u z))
   unfolding turn
   turned s t l u true x e a = record { sensors = a; left = refl; text = refl; stop = refl }
   turned s t l u false false e a = rw e (record { sensors = a; left = refl; text = refl; stop = refl })
@@ -122,19 +124,19 @@ module _ (trace : Bool) where
         stop = refl;
       })
 
-  turn-beside : (b d : Bench) → Beside b d → Beside (turn trace b) (turn trace d)
+  turn-beside : (b d : Running Bma150) → Beside b d → Beside (turn (bench trace) b) (turn (bench trace) d)
   turn-beside b d h =
-      rw (h .left, h .text, h .stop) (turned (b .sensor) (d .sensor) (d .left) (d .text) (d .stop) (ltb 0 (length (d .left))) refl (h .sensors))
+      rw (h .left, h .text, h .stop) (turned (b .state) (d .state) (d .left) (d .text) (d .stop) (ltb 0 (length (d .left))) refl (h .sensors))
 
-  iter-beside : (n : ℕ) (b d : Bench) → Beside b d → Beside (iterate n (turn trace) b) (iterate n (turn trace) d)
+  iter-beside : (n : ℕ) (b d : Running Bma150) → Beside b d → Beside (iterate n (turn (bench trace)) b) (iterate n (turn (bench trace)) d)
   unfolding iterate
   iter-beside zero b d h = h
-  iter-beside (suc n) b d h = turn-beside (iterate n (turn trace) b) (iterate n (turn trace) d) (iter-beside n b d h)
+  iter-beside (suc n) b d h = turn-beside (iterate n (turn (bench trace)) b) (iterate n (turn (bench trace)) d) (iter-beside n b d h)
 
 alike-prints : (s t : Bma150) → Alike s t → (trace : Bool) (input : List ℕ) → whole trace s input .text ≡ whole trace t input .text
-unfolding whole
+unfolding M.whole
 alike-prints s t a trace input =
-    iter-beside trace (length input) (bench s input [] false) (bench t input [] false) (record { sensors = a; left = refl; text = refl; stop = refl }) .text
+    iter-beside trace (length input) (running s input [] false) (running t input [] false) (record { sensors = a; left = refl; text = refl; stop = refl }) .text
 
 pub printed : Printed
 printed = record {

@@ -1,40 +1,44 @@
 use borrow.Author.Needs.{needs}
 use native.Mathlib.Omega.{arith}
-use mathlib.Core.Path.{refl, sym, _∙_}
-use mathlib.Core.Bool.{false}
-use Prim.Native.Nat.{_+_, _-_, _≤_, _<_}
+use mathlib.Core.Path.{_≡_, refl, sym, _∙_}
+use mathlib.Core.Bool.{true, false}
+use Prim.Native.Nat.{_-_, _≤_}
 use lib.ListN.{length, drop, length-drop}
-use Rattle.bench.specs.Theorems.Turns.{advance}
-use Rattle.bench.specs.Block.{least}
-use Rattle.bench.specs.Theorems.Blocks.{least-some, Upto, begun, went, finished, pace-short, pace-full, pace-stopped, stopped-turn}
+use Rattle.machine.specs.Theorems.Blocks.{Upto, begun, pace-short, pace-full, pace-stopped, stopped-turn}
+use Rattle.bench.specs.Run.{bench}
+use Rattle.bench.specs.Block.{is-whole}
+use Rattle.bench.specs.Theorems.Loop.{short, some, advance, went, finished}
 use Rattle.bench.proofs.run.Statement.{statement}
 use Rattle.bench.proofs.run.Tie as tie
 
 abbrev Inv-loop : tie.InvT-loop
-Inv-loop input over trace out₀ enough at₀ p₀ n₀ out at p n = (at ≤ length input) × (p ≤ 65536) × Upto trace over n₀ input out₀ out n at p false
+Inv-loop input over trace out₀ at₀ p₀ n₀ out at p n = (at ≤ length input) × (p ≤ 65536) × Upto (bench trace) over n₀ input out₀ out n at p false
 
 abbrev μ-loop : tie.MeasureT-loop
-μ-loop input over trace out₀ enough at₀ p₀ n₀ out at p n = length input - at
-
-least-requires : tie.Need-least-requires Inv-loop μ-loop
-least-requires c κs = search needs
+μ-loop input over trace out₀ at₀ p₀ n₀ out at p n = length input - at
 
 loop-holds : tie.Need-loop-holds Inv-loop μ-loop
 loop-holds c = (omega arith, omega arith, begun)
 
-sub-loop : tie.Need-sub-loop Inv-loop μ-loop
-sub-loop c = search needs
+is-whole-requires : tie.Need-is-whole-requires Inv-loop μ-loop
+is-whole-requires c κs = search needs
 
 after-block-requires : tie.Need-after-block-requires Inv-loop μ-loop
 after-block-requires c κs = search needs
 
 returns : tie.Need-returns Inv-loop μ-loop
-returns c = let b = c .before .before .before .loop .inv .2 in
-    let done = finished b (c .before .before .before .loop .inv .0) (pace-full _ _ _ (omega (arith, b .bytes .next))) in
+returns c =
+    let b = c .before .before .before .before .loop .inv .2 in
+    let done = finished (c .before .before .before .before .before .before .args .trace) b (c .before .before .before .before .loop .inv .0) (pace-full _ _ _ (omega (arith, b .bytes .next))) in
     rw (c .after-block .ensures) (done .0, (done .1, (done .2, (omega arith, omega arith))))
 
 shared-slice-read-b : tie.Need-shared-slice-read-b Inv-loop μ-loop
-shared-slice-read-b c = let h : 0 < c .before .before .before .before .least .result = rw (c .before .before .before .before .least .ensures) (least-some _) in omega arith
+shared-slice-read-b c =
+    let input = c .before .before .before .before .before .before .args .input .now in
+    let over = c .before .before .before .before .before .before .args .over in
+    let at = c .before .before .before .before .loop .at in
+    let whole : is-whole over (drop at input) ≡ true = sym (c .before .before .before .is-whole .ensures) ∙ c .before .before .if1 .taken in
+    omega (arith, some over (drop at input) whole, length-drop at input)
 
 decode-requires : tie.Need-decode-requires Inv-loop μ-loop
 decode-requires c κs = search needs
@@ -49,8 +53,12 @@ size-requires : tie.Need-size-requires Inv-loop μ-loop
 size-requires c κs = search needs
 
 add-at : tie.Need-add-at Inv-loop μ-loop
-add-at c = let t : least (c .before .before .before .before .before .before .before .before .before .before .before .args .over) ≤ length (c .before .before .before .before .before .before .before .before .before .before .before .args .input .now) - c .before .before .before .before .before .before .before .before .loop .at = rw (sym (c .before .before .before .before .before .before .before .before .before .least .ensures)) (c .before .before .before .before .before .before .before .loop-test .taken) in
-    let adv : (c .before .before .before .before .before .before .before .before .loop .at + c .size .result ≤ length (c .before .before .before .before .before .before .before .before .before .before .before .args .input .now)) × (1 ≤ c .size .result) = advance (c .before .before .before .before .before .before .before .before .before .before .before .args .input .now) (c .before .before .before .before .before .before .before .before .loop .at) (least-some (c .before .before .before .before .before .before .before .before .before .before .before .args .over)) t (c .before .before .before .before .decode .ensures) (c .size .ensures) in
+add-at c =
+    let input = c .before .before .before .before .before .before .before .before .before .before .before .args .input .now in
+    let over = c .before .before .before .before .before .before .before .before .before .before .before .args .over in
+    let loop = c .before .before .before .before .before .before .before .before .before .loop in
+    let whole : is-whole over (drop (loop .at) input) ≡ true = sym (c .before .before .before .before .before .before .before .before .is-whole .ensures) ∙ c .before .before .before .before .before .before .before .if1 .taken in
+    let adv = advance over input (loop .at) whole (c .before .before .before .before .decode .ensures) (c .size .ensures) in
     omega (arith, adv .0, c .before .before .before .before .before .before .before .before .before .before .before .good .0)
 
 is-bad-requires : tie.Need-is-bad-requires Inv-loop μ-loop
@@ -60,29 +68,45 @@ after-block-requires-2 : tie.Need-after-block-requires-2 Inv-loop μ-loop
 after-block-requires-2 c κs = search needs
 
 returns-2 : tie.Need-returns-2 Inv-loop μ-loop
-returns-2 c = let t : least (c .before .before .before .before .before .before .before .before .before .before .before .before .before .before .before .args .over) ≤ length (c .before .before .before .before .before .before .before .before .before .before .before .before .before .before .before .args .input .now) - c .before .before .before .before .before .before .before .before .before .before .before .before .loop .at = rw (sym (c .before .before .before .before .before .before .before .before .before .before .before .before .before .least .ensures)) (c .before .before .before .before .before .before .before .before .before .before .before .loop-test .taken) in
-    let adv : (c .before .before .before .before .before .before .before .before .before .before .before .before .loop .at + c .before .before .before .before .size .result ≤ length (c .before .before .before .before .before .before .before .before .before .before .before .before .before .before .before .args .input .now)) × (1 ≤ c .before .before .before .before .size .result) = advance (c .before .before .before .before .before .before .before .before .before .before .before .before .before .before .before .args .input .now) (c .before .before .before .before .before .before .before .before .before .before .before .before .loop .at) (least-some (c .before .before .before .before .before .before .before .before .before .before .before .before .before .before .before .args .over)) t (c .before .before .before .before .before .before .before .before .decode .ensures) (c .before .before .before .before .size .ensures) in
-    let b = went (c .before .before .before .before .before .before .before .serve .result) (c .before .before .before .before .before .before .before .before .before .before .before .before .loop .inv .2) t (c .before .before .before .before .before .before .before .before .before .before .if1 .left) (c .before .before .before .before .before .before .before .before .decode .ensures) (c .before .before .before .before .before .before .before .serve .ensures) (c .before .before .before .before .size .ensures) (sym (c .before .if2 .taken) ∙ c .before .before .is-bad .ensures) (c .before .before .before .before .before .write-line .ensures .0) in
-    let done = finished b (adv .0) (pace-stopped _ _ _ (stopped-turn _ _ refl)) in
-    rw (c .after-block2 .ensures) (done .0, (done .1, (done .2, (adv .0, omega arith))))
+returns-2 c =
+    let input = c .before .before .before .before .before .before .before .before .before .before .before .before .before .before .before .args .input .now in
+    let over = c .before .before .before .before .before .before .before .before .before .before .before .before .before .before .before .args .over in
+    let loop = c .before .before .before .before .before .before .before .before .before .before .before .before .before .loop in
+    let whole : is-whole over (drop (loop .at) input) ≡ true = sym (c .before .before .before .before .before .before .before .before .before .before .before .before .is-whole .ensures) ∙ c .before .before .before .before .before .before .before .before .before .before .before .if1 .taken in
+    let adv = advance over input (loop .at) whole (c .before .before .before .before .before .before .before .before .decode .ensures) (c .before .before .before .before .size .ensures) in
+    let b = went (c .before .before .before .before .before .before .before .before .before .before .before .before .before .before .before .args .trace) (c .before .before .before .before .before .before .before .serve .result) (loop .inv .2) whole (c .before .before .before .before .before .before .before .before .before .before .if2 .left) (c .before .before .before .before .before .before .before .before .decode .ensures) (c .before .before .before .before .before .before .before .serve .ensures) (c .before .before .before .before .size .ensures) (sym (c .before .if3 .taken) ∙ c .before .before .is-bad .ensures) (c .before .before .before .before .before .write-line .ensures .0) in
+    let done = finished (c .before .before .before .before .before .before .before .before .before .before .before .before .before .before .before .args .trace) b (adv .0) (pace-stopped _ _ _ (stopped-turn _ _ refl)) in
+    rw (c .after-block2 .ensures) (done .0, (done .1, (done .2, (adv .0, omega (arith, c .before .before .before .before .before .write-line .ensures .1, c .before .before .before .before .before .before .before .before .before .before .if2 .left)))))
 
 loop-less : tie.Need-loop-less Inv-loop μ-loop
-loop-less c = let t : least (c .before .before .before .before .before .before .before .before .before .before .before .before .before .before .args .over) ≤ length (c .before .before .before .before .before .before .before .before .before .before .before .before .before .before .args .input .now) - c .before .before .before .before .before .before .before .before .before .before .before .loop .at = rw (sym (c .before .before .before .before .before .before .before .before .before .before .before .before .least .ensures)) (c .before .before .before .before .before .before .before .before .before .before .loop-test .taken) in
-    let adv : (c .before .before .before .before .before .before .before .before .before .before .before .loop .at + c .before .before .before .size .result ≤ length (c .before .before .before .before .before .before .before .before .before .before .before .before .before .before .args .input .now)) × (1 ≤ c .before .before .before .size .result) = advance (c .before .before .before .before .before .before .before .before .before .before .before .before .before .before .args .input .now) (c .before .before .before .before .before .before .before .before .before .before .before .loop .at) (least-some (c .before .before .before .before .before .before .before .before .before .before .before .before .before .before .args .over)) t (c .before .before .before .before .before .before .before .decode .ensures) (c .before .before .before .size .ensures) in
+loop-less c =
+    let input = c .before .before .before .before .before .before .before .before .before .before .before .before .before .before .args .input .now in
+    let over = c .before .before .before .before .before .before .before .before .before .before .before .before .before .before .args .over in
+    let loop = c .before .before .before .before .before .before .before .before .before .before .before .before .loop in
+    let whole : is-whole over (drop (loop .at) input) ≡ true = sym (c .before .before .before .before .before .before .before .before .before .before .before .is-whole .ensures) ∙ c .before .before .before .before .before .before .before .before .before .before .if1 .taken in
+    let adv = advance over input (loop .at) whole (c .before .before .before .before .before .before .before .decode .ensures) (c .before .before .before .size .ensures) in
     omega (arith, adv .0, adv .1)
 
 loop-again : tie.Need-loop-again Inv-loop μ-loop
-loop-again c = let t : least (c .before .before .before .before .before .before .before .before .before .before .before .before .before .before .args .over) ≤ length (c .before .before .before .before .before .before .before .before .before .before .before .before .before .before .args .input .now) - c .before .before .before .before .before .before .before .before .before .before .before .loop .at = rw (sym (c .before .before .before .before .before .before .before .before .before .before .before .before .least .ensures)) (c .before .before .before .before .before .before .before .before .before .before .loop-test .taken) in
-    let adv : (c .before .before .before .before .before .before .before .before .before .before .before .loop .at + c .before .before .before .size .result ≤ length (c .before .before .before .before .before .before .before .before .before .before .before .before .before .before .args .input .now)) × (1 ≤ c .before .before .before .size .result) = advance (c .before .before .before .before .before .before .before .before .before .before .before .before .before .before .args .input .now) (c .before .before .before .before .before .before .before .before .before .before .before .loop .at) (least-some (c .before .before .before .before .before .before .before .before .before .before .before .before .before .before .args .over)) t (c .before .before .before .before .before .before .before .decode .ensures) (c .before .before .before .size .ensures) in
-    (adv .0, omega arith, went (c .before .before .before .before .before .before .serve .result) (c .before .before .before .before .before .before .before .before .before .before .before .loop .inv .2) t (c .before .before .before .before .before .before .before .before .before .if1 .left) (c .before .before .before .before .before .before .before .decode .ensures) (c .before .before .before .before .before .before .serve .ensures) (c .before .before .before .size .ensures) (sym (c .if2 .left) ∙ c .before .is-bad .ensures) (c .before .before .before .before .write-line .ensures .0))
+loop-again c =
+    let input = c .before .before .before .before .before .before .before .before .before .before .before .before .before .before .args .input .now in
+    let over = c .before .before .before .before .before .before .before .before .before .before .before .before .before .before .args .over in
+    let loop = c .before .before .before .before .before .before .before .before .before .before .before .before .loop in
+    let whole : is-whole over (drop (loop .at) input) ≡ true = sym (c .before .before .before .before .before .before .before .before .before .before .before .is-whole .ensures) ∙ c .before .before .before .before .before .before .before .before .before .before .if1 .taken in
+    let adv = advance over input (loop .at) whole (c .before .before .before .before .before .before .before .decode .ensures) (c .before .before .before .size .ensures) in
+    (adv .0, omega arith, went (c .before .before .before .before .before .before .before .before .before .before .before .before .before .before .args .trace) (c .before .before .before .before .before .before .serve .result) (loop .inv .2) whole (c .before .before .before .before .before .before .before .before .before .if2 .left) (c .before .before .before .before .before .before .before .decode .ensures) (c .before .before .before .before .before .before .serve .ensures) (c .before .before .before .size .ensures) (sym (c .if3 .left) ∙ c .before .is-bad .ensures) (c .before .before .before .before .write-line .ensures .0))
 
 after-block-requires-3 : tie.Need-after-block-requires-3 Inv-loop μ-loop
 after-block-requires-3 c κs = search needs
 
 returns-3 : tie.Need-returns-3 Inv-loop μ-loop
-returns-3 c = let b = c .before .before .loop .inv .2 in
-    let short : length (drop (c .before .before .loop .at) (c .before .before .before .before .before .args .input .now)) < least (c .before .before .before .before .before .args .over) = rw (length-drop, sym (c .before .before .before .least .ensures)) (c .before .loop-test .left) in
-    let done = finished b (c .before .before .loop .inv .0) (pace-short _ _ _ short) in
+returns-3 c =
+    let b = c .before .before .before .loop .inv .2 in
+    let trace = c .before .before .before .before .before .args .trace in
+    let over = c .before .before .before .before .before .args .over in
+    let left = drop (c .before .before .before .loop .at) (c .before .before .before .before .before .args .input .now) in
+    let few : is-whole over left ≡ false = sym (c .before .before .is-whole .ensures) ∙ c .before .if1 .left in
+    let done = finished trace b (c .before .before .before .loop .inv .0) (pace-short _ _ _ (short trace over left few)) in
     rw (c .after-block3 .ensures) (done .0, (done .1, (done .2, (omega arith, omega arith))))
 
 pub run-spec : {M : Type 1} → statement M
@@ -91,9 +115,8 @@ run-spec =
     (tie.spec
     Inv-loop
     μ-loop
-    least-requires
     loop-holds
-    sub-loop
+    is-whole-requires
     after-block-requires
     returns
     shared-slice-read-b

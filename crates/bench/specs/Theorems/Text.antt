@@ -5,7 +5,7 @@ use Prim.Native.Nat.{ℕ, _+_, _<_}
 use native.Mathlib.Omega.{arith}
 use lib.ListN.{length, take, getD}
 use Rattle.bench.specs.Text.{hex, hexes}
-use Rattle.bench.specs.Theorems.Put.{one-more}
+use Rattle.machine.specs.Theorems.Put.{one-more}
 
 pub hexes-append : (l m : List ℕ) → hexes (l ++ m) ≡ hexes l ++ hexes m
 hexes-append [] m = refl

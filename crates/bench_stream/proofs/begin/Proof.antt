@@ -10,7 +10,7 @@ use Rattle.bench_stream.proofs.begin.Statement.{statement}
 use Rattle.bench_stream.proofs.begin.Tie as tie
 
 abbrev turn : Bma150 → Turn
-turn s = record { at = 0; have = 0; over = false; stop = false; sensor = s }
+turn s = record { at = 0; have = 0; over = false; stop = false; unread = false; unwritten = false; written = 0; sensor = s }
 
 stock-requires : tie.Need-stock-requires
 stock-requires c κs = search needs

@@ -1,8 +1,11 @@
+use borrow.Author.Needs.{needs}
 use native.Mathlib.Omega.{arith}
 use mathlib.Core.Path.{refl}
+use mathlib.Core.List.{[]}
 use Prim.Native.Nat.{_+_, _≤_}
-use Rattle.bench_stream.specs.Theorems.Loop.{within, blocked}
-use borrow.Author.Needs.{needs}
+use Rattle.bench.specs.Block.{block}
+use Rattle.bench_stream.specs.Loop.{kept-of, Did}
+use Rattle.bench_stream.specs.Theorems.Turn.{within, shown}
 use Rattle.bench_stream.proofs.commands.Statement.{statement}
 use Rattle.bench_stream.proofs.commands.Tie as tie
 
@@ -22,16 +25,27 @@ flush-requires : tie.Need-flush-requires
 flush-requires c κs = search needs
 
 add-t13 : tie.Need-add-t13
-add-t13 c = let h : c .before .before .before .before .before .before .before .before .before .before .args .t .at + c .before .before .before .before .before .run .result .read ≤ c .before .before .before .before .before .before .before .before .before .before .args .t .have = within (c .before .before .before .before .before .before .before .before .before .before .args .buf .now) (c .before .before .before .before .before .before .before .before .before .before .args .t .at) (c .before .before .before .before .before .before .before .before .before .before .args .t .have) (c .before .before .before .before .before .run .result .read) (c .before .before .before .before .before .before .before .before .before .before .pre .0) (c .before .before .before .before .before .before .before .before .before .before .pre .1) (c .before .before .before .before .before .run .ensures .1 .1 .1 .0) in
-    omega (arith, h, c .before .before .before .before .before .before .before .before .before .before .good .0)
+add-t13 c =
+    let t = c .before .before .before .before .before .before .before .before .before .before .args .t in
+    let pre = c .before .before .before .before .before .before .before .before .before .before .pre in
+    let r = c .before .before .before .before .before .run in
+    let h : t .at + r .result .read ≤ t .have = within (c .before .before .before .before .before .before .before .before .before .before .args .buf .now) (t .at) (t .have) (r .result .read) (pre .0) (pre .1) (r .ensures .1 .1 .1 .0) in
+    omega (arith, h, pre .1, c .before .before .before .before .before .before .before .before .before .before .good .0)
 
 returns : tie.Need-returns
-returns c = let e = c .before .before .before .before .before .run .ensures in (
-  (within (c .before .before .before .before .before .before .before .before .before .before .args .buf .now) (c .before .before .before .before .before .before .before .before .before .before .args .t .at) (c .before .before .before .before .before .before .before .before .before .before .args .t .have) (c .before .before .before .before .before .run .result .read) (c .before .before .before .before .before .before .before .before .before .before .pre .0) (c .before .before .before .before .before .before .before .before .before .before .pre .1) (e .1 .1 .1 .0), refl),
-  blocked (c .before .before .before .before .before .before .before .before .before .before .args .trace) (c .before .before .before .before .before .before .before .before .before .before .args .t) (c .before .before .before .before .before .before .before .before .before .before .args .buf .now) (c .before .before .before .before .before .run .result) (c .before .before .before .before .before .before .before .before .before .before .pre .2) (c .before .before .before .before .before .before .before .before .before .before .pre .0) (c .before .before .before .before .before .before .before .before .before .before .pre .1) (e .1 .1 .1 .0) (e .0) (e .1 .1 .0),
-)
+returns c =
+    let t = c .before .before .before .before .before .before .before .before .before .before .args .t in
+    let pre = c .before .before .before .before .before .before .before .before .before .before .pre in
+    let r = c .before .before .before .before .before .run in
+    let e = r .ensures in (
+      (within (c .before .before .before .before .before .before .before .before .before .before .args .buf .now) (t .at) (t .have) (r .result .read) (pre .0) (pre .1) (e .1 .1 .1 .0), refl, e .1 .1 .1 .1),
+      record {
+        piece = [];
+        text = _;
+        did = Did.served (r .result) (c .before .flush .result) (pre .3) (pre .0) (pre .1) (e .1 .1 .1 .0) (e .0) (e .1 .1 .0);
+        shown = shown (c .before .before .before .before .before .before .before .before .before .before .args .out .now) (block (c .before .before .before .before .before .before .before .before .before .before .args .trace) (t .over) (t .sensor) (kept-of t (c .before .before .before .before .before .before .before .before .before .before .args .buf .now))) _ (search needs) (e .1 .0) (e .0) (e .1 .1 .1 .1);
+      },
+    )
 
 pub commands-spec : {M : Type 1} → statement M
-commands-spec =
-    tie.close
-    (tie.spec sub-run part-run-start part-run-end run-requires flush-requires add-t13 returns)
+commands-spec = tie.close (tie.spec sub-run part-run-start part-run-end run-requires flush-requires add-t13 returns)

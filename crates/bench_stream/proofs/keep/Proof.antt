@@ -3,8 +3,8 @@ use native.Mathlib.Omega.{arith}
 use mathlib.Core.Path.{_≡_}
 use Prim.Native.Nat.{_+_, _-_, _≤_, _<_}
 use lib.ListN.{length, take, drop}
-use Rattle.bench.specs.Put.{Put}
-use Rattle.bench.specs.Theorems.Put.{none, says, moved, stored, kept-length}
+use Rattle.machine.specs.Put.{Put}
+use Rattle.machine.specs.Theorems.Put.{none, says, moved, stored, kept-length}
 use Rattle.bench_stream.proofs.keep.Statement.{statement}
 use Rattle.bench_stream.proofs.keep.Tie as tie
 

@@ -1,91 +1,109 @@
--- What each turn of the loop does to a history.
+-- What the loop has read and handed to `write`.
 use mathlib.Core.Path.{_≡_, refl, sym, ap, subst, _∙_}
 use mathlib.Core.Bool.{Bool, true, false}
-use mathlib.Core.List.{List, [], _++_}
-use Prim.Native.Nat.{ℕ, _+_, _-_, _≤_}
-use native.Mathlib.Omega.{arith}
-use lib.ListN.{length, take, drop, length-take, length-drop}
-use lib.Seq.{take-add, drop-drop, drop-at, length-take-le}
+use mathlib.Core.Logic.{inl, inr}
+use mathlib.Core.List.{List, [], _++_, append-nil}
+use Prim.Native.Nat.{ℕ, _+_, _-_, _^_, _≤_}
+use native.Mathlib.Nat.{add-zero, zero-add}
+use lib.Dec.{eqb}
+use lib.ListN.{length, take, drop}
+use lib.Seq.{take-add}
+use Rattle.machine.specs.Pieces.{Between, between, Steps, begun, brought, ended, ran}
+use Rattle.machine.specs.Theorems.Put.{text}
+use Rattle.machine.specs.Theorems.Turns.{Goes}
+use Rattle.machine.specs.Theorems.Whole as M
 use Rattle.bma150.specs.declared.host.Bma150.{Bma150}
 use Rattle.bench.specs.declared.Ran.{Ran}
-use Rattle.bench.specs.Put.{Put}
-use Rattle.bench.specs.Theorems.Put.{text}
+use Rattle.bench.specs.Run.{bench, whole}
 use Rattle.bench.specs.Block.{block, answer}
-use Rattle.bench.specs.Pieces.{Between, between, worked, begun, brought, ended, ran}
+use Rattle.bench.specs.Theorems.Lawful.{lawful}
 use Rattle.bench_stream.specs.declared.Turn.{Turn}
-use Rattle.bench_stream.specs.Loop.{first, kept, between-of, History, Onward}
+use Rattle.bench_stream.specs.Loop.{beginning, first, kept, kept-of, goes-on, arrived, cut-off, served-by, Did, Turns, Ended}
+use Rattle.bench_stream.specs.Theorems.Turn.{within, shorter, less, between-of, same-between, not-stopped, at-end, add-one-over}
 
--- ---- laws
+module _ (trace : Bool) where
+  abbrev Led : (l w : List ℕ) → Turn → (buf : List ℕ) → Type 0
+  Led l w t buf = Steps (bench trace) beginning l w (between-of t buf)
 
--- bytes read behind the kept ones are a further piece
-pub longer : (buf : List ℕ) (k n : ℕ) → take (k + n) buf ≡ take k buf ++ take n (drop k buf)
-longer buf k n = take-add k n buf
+  -- nothing brought, nothing written
+  abbrev Adds : (l w piece text : List ℕ) → Between Bma150 → Type 0
+  Adds l w piece text d = Steps (bench trace) beginning (l ++ piece) (w ++ text) d
 
-room : (buf : List ℕ) (at n : ℕ) → at + n ≤ length buf → n ≤ length (drop at buf)
-room buf at n h = simp length-drop (omega arith)
+  renamed : {l w : List ℕ} (d e : Between Bma150) → d ≡ e → Steps (bench trace) beginning l w d → Steps (bench trace) beginning l w e
+  renamed {l} {w} d e p h = subst (λ (x : Between Bma150). Steps (bench trace) beginning l w x) p h
 
--- a block takes the first bytes of those kept
-pub shorter : (buf : List ℕ) (at have n : ℕ) → at + n ≤ have → have ≤ length buf → drop n (kept buf at have) ≡ kept buf (at + n) have
-shorter buf at have n h g =
-    let e : have - at ≡ n + (have - (at + n)) = omega arith in
-    let k : length (take n (drop at buf)) ≡ n = length-take-le n (drop at buf) (room buf at n (omega arith)) in
-    ap (λ (i : ℕ). drop n (take i (drop at buf))) e
-    ∙ ap (drop n) (take-add n (have - (at + n)) (drop at buf))
-    ∙ drop-at (take n (drop at buf)) (take (have - (at + n)) (drop n (drop at buf))) n k
-    ∙ ap (take (have - (at + n))) (drop-drop n at buf)
+  silent : {l w : List ℕ} {d : Between Bma150} → Steps (bench trace) beginning l w d → Steps (bench trace) beginning l (w ++ []) d
+  silent {l} {w} {d} h = subst (λ (x : List ℕ). Steps (bench trace) beginning l x d) (sym (append-nil w)) h
 
--- ---- what each turn does to a history
+  still : {l w : List ℕ} {d : Between Bma150} → Steps (bench trace) beginning l w d → Steps (bench trace) beginning (l ++ []) w d
+  still {l} {w} {d} h = subst (λ (x : List ℕ). Steps (bench trace) beginning x w d) (sym (append-nil l)) h
 
-pub kept-length : (buf : List ℕ) (at have : ℕ) → at ≤ have → have ≤ length buf → length (kept buf at have) ≡ have - at
-kept-length buf at have h g = length-take-le (have - at) (drop at buf) (room buf at (have - at) (omega arith))
+  by-read : {l w k : List ℕ} {n : Bma150} (piece : List ℕ) (z : Bool) → Steps (bench trace) beginning l w (between n k false false)
+      → Steps (bench trace) beginning (l ++ piece) w (between n (k ++ piece) z false)
+  by-read piece true h = ended (brought piece h)
+  by-read piece false h = brought piece h
 
-pub within : (buf : List ℕ) (at have n : ℕ) → at ≤ have → have ≤ length buf → n ≤ length (kept buf at have) → at + n ≤ have
-within buf at have n h g e = omega (arith, kept-length buf at have h g)
+  module _ {l w : List ℕ} (t : Turn) (b : List ℕ) (going : t .stop ≡ false) (h : Led l w t b) where
+    read-steps : (c : List ℕ) (k got : ℕ) → t .over ≡ false → take k c ≡ kept-of t b → Adds l w (take got (drop k c)) [] (between-of (arrived k got (t .sensor)) c)
+    read-steps c k got more same =
+        let all : kept-of t b ++ take got (drop k c) ≡ kept c 0 (k + got) = ap (λ (x : List ℕ). x ++ take got (drop k c)) (sym same) ∙ sym (take-add k got c) ∙ ap (λ (i : ℕ). take i c) (less (k + got)) in
+        silent (renamed _ _ (same-between refl all refl refl) (by-read (take got (drop k c)) (eqb got 0) (renamed _ _ (same-between refl refl more going) h)))
 
-same-between : {a b : Bma150} {k j : List ℕ} {o x y z : Bool} → a ≡ b → k ≡ j → o ≡ x → y ≡ z → between a k o y ≡ between b j x z
-same-between e f g h = cc
+    failed-steps : (c : List ℕ) (k : ℕ) → t .over ≡ false → take k c ≡ kept-of t b → Adds l w [] [] (between-of (cut-off k (t .sensor)) c)
+    failed-steps c k more same =
+        let all : kept-of t b ≡ kept c 0 k = sym same ∙ ap (λ (i : ℕ). take i c) (less k) in
+        silent (still (renamed _ _ (same-between refl all more going) h))
 
-less : (i : ℕ) → i ≡ i - 0
-less i = omega arith
+    served-steps : (r : Ran) (taken : Bool) → t .at ≤ t .have → t .have ≤ length b → r .read ≤ length (kept-of t b)
+        → r ≡ answer (length (kept-of t b)) (block trace (t .over) (t .sensor) (kept-of t b))
+        → block trace (t .over) (t .sensor) (kept-of t b) .left ≡ drop (r .read) (kept-of t b)
+        → Adds l w [] (block trace (t .over) (t .sensor) (kept-of t b) .text) (between-of (served-by t r taken) b)
+    served-steps r taken x y z is left =
+        let to : block trace (t .over) (t .sensor) (kept-of t b) .left ≡ kept b (t .at + r .read) (t .have) = left ∙ shorter b (t .at) (t .have) (r .read) (within b (t .at) (t .have) (r .read) x y z) y in
+        still (renamed _ _ (same-between (sym (ap (λ (q : Ran). q .sensor) is)) to refl (sym (ap (λ (q : Ran). q .stop) is)))
+        (ran (renamed _ _ (same-between refl refl refl going) h)))
 
--- a history at another name of its between
-renamed : {trace : Bool} (d e : Between) → d ≡ e → History trace d → History trace e
-renamed {trace} d e p h = subst (λ (x : Between). History trace x) p h
+  did : {l w : List ℕ} {t u : Turn} {b c piece text : List ℕ} → t .stop ≡ false → Led l w t b → Did trace t b u c piece text → Led (l ++ piece) (w ++ text) u c
+  did {l} {w} {t} {u} {b} going h (Did.read c k got more few same) = read-steps t b going h c k got more same
+  did {l} {w} {t} {u} {b} going h (Did.failed c k more few same) = failed-steps t b going h c k more same
+  did {l} {w} {t} {u} {b} going h (Did.served r taken enough x y z is left) = served-steps t b going h r taken x y z is left
 
-module _ (trace : Bool) (n : Bma150) (k : List ℕ) where
-  by-block : (o : Bool) → History trace (between n k o false) → History trace (worked trace n k o)
-  by-block o h = record { brought = h .brought; written = h .written ++ block trace o n k .text; steps = ran (h .steps) }
+  -- what the turns read and handed to `write` are pieces brought and texts of blocks
+  pub led : {n : ℕ} {l w : List ℕ} {t : Turn} {b : List ℕ} → Turns trace n l w t b → Led l w t b
+  led (Turns.none b) = begun
+  led (Turns.more {n} {l} {w} {t} {u} {b} {c} {piece} {text} h p d) = did (not-stopped t p) (led h) d
 
-  by-read : (piece : List ℕ) (z : Bool) → History trace (between n k false false) → History trace (between n (k ++ piece) z false)
-  by-read piece true h = record { brought = h .brought ++ piece; written = h .written; steps = ended (brought piece (h .steps)) }
-  by-read piece false h = record { brought = h .brought ++ piece; written = h .written; steps = brought piece (h .steps) }
+  -- ---- the end
 
--- a block on the kept bytes
-pub blocked : (trace : Bool) (t : Turn) (buf : List ℕ) (r : Ran) → t .stop ≡ false → t .at ≤ t .have → t .have ≤ length buf
-    → r .read ≤ length (kept buf (t .at) (t .have))
-    → r ≡ answer (length (kept buf (t .at) (t .have))) (block trace (t .over) (t .sensor) (kept buf (t .at) (t .have)))
-    → block trace (t .over) (t .sensor) (kept buf (t .at) (t .have)) .left ≡ drop (r .read) (kept buf (t .at) (t .have))
-    → Onward trace t buf (record { at = t .at + r .read; have = t .have; over = t .over; stop = r .stop; sensor = r .sensor }) buf
-blocked trace t buf r run h g e a b p =
-    let k : List ℕ = kept buf (t .at) (t .have) in
-    let d = by-block trace (t .sensor) k (t .over) (renamed _ _ (same-between refl refl refl run) p) in
-    renamed _ _
-    (same-between (sym (ap (λ (x : Ran). x .sensor) a)) (b ∙ shorter buf (t .at) (t .have) (r .read) (within buf (t .at) (t .have) (r .read) h g e) g) refl (sym (ap (λ (x : Ran). x .stop) a)))
-    d
+  -- where nothing was left to do, and no read and no write had failed, all that was handed to `write` is the text of the whole run on what was read
+  pub all-written : {n : ℕ} {l w : List ℕ} {t : Turn} {b : List ℕ} → Turns trace n l w t b → goes-on t ≡ false → t .unread ≡ false → t .unwritten ≡ false
+      → whole trace beginning l .text ≡ w
+  all-written {n} {l} {w} {t} {b} h e r f = M.put-together (lawful trace) (between-of t b) (led h) (at-end t b e r f)
 
--- bytes moved to the front, and more read behind them
-pub filled : (trace : Bool) (t : Turn) (b c d : List ℕ) (k got : ℕ) (z : Bool) → t .over ≡ false → t .stop ≡ false
-    → Put b 0 (kept b (t .at) (t .have)) c k → take k d ≡ take k c
-    → Onward trace t b (record { at = 0; have = k + got; over = z; stop = false; sensor = t .sensor }) d
-filled trace t b c d k got z more run p e q =
-    let n : 0 + length (kept b (t .at) (t .have)) ≤ length b = simp (length-take, length-drop) (omega arith) in
-    let front : take k d ≡ kept b (t .at) (t .have) = e ∙ text n p in
-    let all : kept b (t .at) (t .have) ++ take got (drop k d) ≡ kept d 0 (k + got) = ap (λ (x : List ℕ). x ++ take got (drop k d)) (sym front) ∙ sym (longer d k got) ∙ ap (λ (i : ℕ). take i d) (less (k + got)) in
-    renamed _ _ (same-between refl all refl refl)
-    (by-read trace (t .sensor) (kept b (t .at) (t .have)) (take got (drop k d)) z (renamed _ _ (same-between refl refl more run) q))
+  -- before the input is over, what was handed to `write` is what turns of the whole run write, whatever follows what was read
+  pub so-far : {n : ℕ} {l w : List ℕ} {t : Turn} {b : List ℕ} → Turns trace n l w t b → t .over ≡ false → (later : List ℕ)
+      → Goes (bench trace) beginning (l ++ later) w (t .sensor) (kept-of t b ++ later) (t .stop)
+  so-far {n} {l} {w} {t} {b} h e later = M.so-far (lawful trace) (renamed _ _ (same-between refl refl e refl) (led h)) later
 
-pub from-first : (trace : Bool) (t : Turn) (buf : List ℕ) → t ≡ first → History trace (between-of t buf)
-from-first trace t buf e = subst (λ (x : Turn). History trace (between-of x buf)) (sym e) (record { brought = []; written = []; steps = begun })
+  -- ---- within the loop: so many turns done, so many left
 
-pub first-bounds : (t : Turn) → t ≡ first → (t .at ≤ t .have) × (t .have ≤ 65536)
-first-bounds t e = subst (λ (x : Turn). (x .at ≤ x .have) × (x .have ≤ 65536)) (sym e) (omega arith, omega arith)
+  pub record Upto (left : ℕ) (t : Turn) (b : List ℕ) : Type 0 where
+    pub count : ℕ
+    pub read : List ℕ
+    pub handed : List ℕ
+    pub turns : Turns trace count read handed t b
+    pub spent : count + left ≡ 2 ^ 64 - 1
+
+  pub upto-first : (t : Turn) (b : List ℕ) → t ≡ first → Upto (2 ^ 64 - 1) t b
+  upto-first t b e = subst (λ (x : Turn). Upto (2 ^ 64 - 1) x b) (sym e) (record { count = 0; read = []; handed = []; turns = Turns.none b; spent = zero-add _ })
+
+  pub upto-next : {left rest : ℕ} {t u : Turn} {b c piece text : List ℕ} → Upto left t b → left ≡ rest + 1 → goes-on t ≡ true → Did trace t b u c piece text → Upto rest u c
+  upto-next {left} {rest} {t} {u} {b} {c} {piece} {text} h e p d =
+      record { count = h .count + 1; read = h .read ++ piece; handed = h .handed ++ text; turns = Turns.more (h .turns) p d; spent = add-one-over (h .count) _ _ e ∙ h .spent }
+
+  pub ended-now : {left : ℕ} {t : Turn} {b : List ℕ} → Upto left t b → goes-on t ≡ false → Ended trace t
+  ended-now {left} {t} {b} h p = record { count = h .count; read = h .read; handed = h .handed; buffer = b; turns = h .turns; end = inl p }
+
+  pub used-up : {left : ℕ} {t : Turn} {b : List ℕ} → Upto left t b → left ≡ 0 → Ended trace t
+  used-up {left} {t} {b} h p =
+      record { count = h .count; read = h .read; handed = h .handed; buffer = b; turns = h .turns; end = inr (sym (add-zero (h .count)) ∙ ap (λ (x : ℕ). h .count + x) (sym p) ∙ h .spent) }

@@ -1,7 +1,6 @@
 -- What follows a command does not alter it, and no command is longer than what is there.
 use mathlib.Core.Path.{_≡_, refl, sym, ap, _∙_}
 use mathlib.Core.Bool.{Bool, true, false, cond}
-use mathlib.Core.Logic.{_⊎_, inl, inr, ⊎-elim}
 use mathlib.Core.List.{List, _∷_, _++_}
 use Prim.Native.Nat.{ℕ, _+_, _-_, _≤_, _<_}
 use native.Mathlib.Omega.{arith}
@@ -16,7 +15,7 @@ use Rattle.calls.specs.declared.types.Call.{Call}
 use Rattle.calls.specs.declared.types.Call.the-variants as Call
 use Rattle.commands.specs.declared.Command.{Command}
 use Rattle.commands.specs.declared.Command.the-variants as Command
-use Rattle.commands.specs.Decode.{part, big, number-at, moment-at, signed-at, byte-at, within, either-of, lines, start, image, accelerations, temperature, supply, due, select, rising, falling, pins, stored-image, view, decode-06-to-0b, decode-01-to-05, decoded, timed, timed-size, call-size, size, is-bad}
+use Rattle.commands.specs.Decode.{part, big, number-at, moment-at, signed-at, byte-at, within, either-of, lines, start, image, accelerations, temperature, supply, due, select, rising, falling, pins, stored-image, view, decode-06-to-0b, decode-01-to-05, decoded, wants-06-to-0b, wants, timed, timed-size, call-size, size, is-bad}
 
 -- ---- what follows does not alter the command at the head
 
@@ -37,10 +36,37 @@ moment-before a l m h =
     let q : a + 4 + 8 ≤ length l = omega arith in
     rw (number-before a 4 l m p, number-before (a + 4) 8 l m q)
 
--- a command that is not bad has its bytes, and a long list has those of each
-data Has (l : List ℕ) : Command → Type 0 where
-  good : {c : Command} → is-bad c ≡ false → Has l c
-  long : {c : Command} → 32 ≤ length l → Has l c
+-- ---- every first byte wants a byte at least
+
+either-some : (t : Bool) (a b : ℕ) → 0 < a → 0 < b → 0 < cond t a b
+either-some true a b p q = p
+either-some false a b p q = q
+
+wants-06-to-0b-some : (c : ℕ) → 0 < wants-06-to-0b c
+unfolding wants-06-to-0b
+wants-06-to-0b-some c =
+    either-some (eqb c 6) _ _ (omega arith)
+    (either-some (eqb c 7) _ _ (omega arith)
+    (either-some (eqb c 8) _ _ (omega arith)
+    (either-some (eqb c 9) _ _ (omega arith)
+    (either-some (eqb c 10) _ _ (omega arith)
+    (either-some (eqb c 11) _ _ (omega arith) (omega arith))))))
+
+pub wants-some : (c : ℕ) → 0 < wants c
+unfolding wants
+wants-some c =
+    either-some (eqb c 1) _ _ (omega arith)
+    (either-some (eqb c 2) _ _ (omega arith)
+    (either-some (eqb c 3) _ _ (omega arith)
+    (either-some (eqb c 4) _ _ (omega arith)
+    (either-some (eqb c 5) _ _ (omega arith) (wants-06-to-0b-some c)))))
+
+-- ---- a command whose bytes are there
+
+-- a command that is not bad has its n bytes, and so has one whose n bytes are there
+data Has (l : List ℕ) (n : ℕ) : Command → Type 0 where
+  good : {c : Command} → is-bad c ≡ false → Has l n c
+  long : {c : Command} → n ≤ length l → Has l n c
 
 bad-is : is-bad Command.Bad ≡ false → ⊥
 unfolding is-bad
@@ -49,15 +75,15 @@ bad-is e =
     omega arith
 
 module _ (l m : List ℕ) where
-  has-within : (n : ℕ) (c : Command) → n ≤ 32 → (t : Bool) → ltb (length l) n ≡ t → Has l (cond t Command.Bad c) → (n ≤ length l) ⊎ (32 ≤ length l)
-  has-within n c h true e (good g) = absurd (bad-is g)
-  has-within n c h true e (long g) = inr g
-  has-within n c h false e g = inl (ltb-false (length l) n e)
+  has-within : (n : ℕ) (c : Command) (t : Bool) → ltb (length l) n ≡ t → Has l n (cond t Command.Bad c) → n ≤ length l
+  has-within n c true e (good g) = absurd (bad-is g)
+  has-within n c true e (long g) = g
+  has-within n c false e g = ltb-false (length l) n e
 
   -- with its n bytes there, what follows is not looked at
-  same : (n : ℕ) (c d : Command) → n ≤ 32 → (n ≤ length l → d ≡ c) → Has l (within n l c) → within n (l ++ m) d ≡ within n l c
-  same n c d h e g =
-      let p : n ≤ length l = ⊎-elim (λ (a : n ≤ length l). a) (λ (b : 32 ≤ length l). omega arith) (has-within n c h (ltb (length l) n) refl g) in
+  same : (n : ℕ) (c d : Command) → (n ≤ length l → d ≡ c) → Has l n (within n l c) → within n (l ++ m) d ≡ within n l c
+  same n c d e g =
+      let p : n ≤ length l = has-within n c (ltb (length l) n) refl g in
       let q : n ≤ length (l ++ m) = simp length-append (omega arith) in
       rw (le-ltb (length (l ++ m)) n q, le-ltb (length l) n p) (e p)
 
@@ -70,84 +96,84 @@ module _ (l m : List ℕ) where
   b-same : (a : ℕ) → a < length l → byte-at a (l ++ m) ≡ byte-at a l
   b-same a h = List·getD-append l m 0 a h
 
-  start-same : Has l (start l) → start (l ++ m) ≡ start l
+  start-same : Has l 32 (start l) → start (l ++ m) ≡ start l
   unfolding start
-  start-same = same 32 _ _ (omega arith) (λ p. rw (t-same (omega arith)))
+  start-same = same 32 _ _ (λ p. rw (t-same (omega arith)))
 
-  accelerations-same : Has l (accelerations l) → accelerations (l ++ m) ≡ accelerations l
+  accelerations-same : Has l 25 (accelerations l) → accelerations (l ++ m) ≡ accelerations l
   unfolding accelerations
   accelerations-same =
-      same 25 _ _ (omega arith) (λ p. rw (t-same (omega arith), z-same 13 (omega arith), z-same 17 (omega arith), z-same 21 (omega arith)))
+      same 25 _ _ (λ p. rw (t-same (omega arith), z-same 13 (omega arith), z-same 17 (omega arith), z-same 21 (omega arith)))
 
-  temperature-same : Has l (temperature l) → temperature (l ++ m) ≡ temperature l
+  temperature-same : Has l 5 (temperature l) → temperature (l ++ m) ≡ temperature l
   unfolding temperature
-  temperature-same = same 5 _ _ (omega arith) (λ p. rw (z-same 1 p))
+  temperature-same = same 5 _ _ (λ p. rw (z-same 1 p))
 
-  supply-same : Has l (supply l) → supply (l ++ m) ≡ supply l
+  supply-same : Has l 15 (supply l) → supply (l ++ m) ≡ supply l
   unfolding supply
-  supply-same = same 15 _ _ (omega arith) (λ p. rw (t-same (omega arith), number-before 13 2 l m p))
+  supply-same = same 15 _ _ (λ p. rw (t-same (omega arith), number-before 13 2 l m p))
 
-  due-same : Has l (due l) → due (l ++ m) ≡ due l
+  due-same : Has l 13 (due l) → due (l ++ m) ≡ due l
   unfolding due
-  due-same = same 13 _ _ (omega arith) (λ p. rw (t-same p))
+  due-same = same 13 _ _ (λ p. rw (t-same p))
 
-  select-same : Has l (select l) → select (l ++ m) ≡ select l
+  select-same : Has l 2 (select l) → select (l ++ m) ≡ select l
   unfolding select
-  select-same = same 2 _ _ (omega arith) (λ p. rw (b-same 1 (omega arith)))
+  select-same = same 2 _ _ (λ p. rw (b-same 1 (omega arith)))
 
-  rising-same : Has l (rising l) → rising (l ++ m) ≡ rising l
+  rising-same : Has l 14 (rising l) → rising (l ++ m) ≡ rising l
   unfolding rising
-  rising-same = same 14 _ _ (omega arith) (λ p. rw (t-same (omega arith), b-same 13 (omega arith)))
+  rising-same = same 14 _ _ (λ p. rw (t-same (omega arith), b-same 13 (omega arith)))
 
-  falling-same : Has l (falling l) → falling (l ++ m) ≡ falling l
+  falling-same : Has l 13 (falling l) → falling (l ++ m) ≡ falling l
   unfolding falling
-  falling-same = same 13 _ _ (omega arith) (λ p. rw (t-same p))
+  falling-same = same 13 _ _ (λ p. rw (t-same p))
 
-  pins-same : Has l (pins l) → pins (l ++ m) ≡ pins l
+  pins-same : Has l 14 (pins l) → pins (l ++ m) ≡ pins l
   unfolding pins
-  pins-same = same 14 _ _ (omega arith) (λ p. rw (t-same (omega arith), b-same 13 (omega arith)))
+  pins-same = same 14 _ _ (λ p. rw (t-same (omega arith), b-same 13 (omega arith)))
 
-  stored-image-same : Has l (stored-image l) → stored-image (l ++ m) ≡ stored-image l
+  stored-image-same : Has l 13 (stored-image l) → stored-image (l ++ m) ≡ stored-image l
   unfolding stored-image
-  stored-image-same = same 13 _ _ (omega arith) (λ p. rw (t-same p))
+  stored-image-same = same 13 _ _ (λ p. rw (t-same p))
 
-  view-same : Has l (view l) → view (l ++ m) ≡ view l
+  view-same : Has l 2 (view l) → view (l ++ m) ≡ view l
   unfolding view
-  view-same = same 2 _ _ (omega arith) (λ p. rw (b-same 1 (omega arith)))
+  view-same = same 2 _ _ (λ p. rw (b-same 1 (omega arith)))
 
   -- of two commands the one that the byte names
-  pick : (t : Bool) (a b c d : Command) → (Has l a → c ≡ a) → (Has l b → d ≡ b) → Has l (cond t a b) → cond t c d ≡ cond t a b
-  pick true a b c d p q g = p g
-  pick false a b c d p q g = q g
+  pick : (t : Bool) (a b c d : Command) (x y : ℕ) → (Has l x a → c ≡ a) → (Has l y b → d ≡ b) → Has l (cond t x y) (cond t a b) → cond t c d ≡ cond t a b
+  pick true a b c d x y p q g = p g
+  pick false a b c d x y p q g = q g
 
-  decode-06-to-0b-same : (c : ℕ) → Has l (decode-06-to-0b c l) → decode-06-to-0b c (l ++ m) ≡ decode-06-to-0b c l
-  unfolding decode-06-to-0b
+  decode-06-to-0b-same : (c : ℕ) → Has l (wants-06-to-0b c) (decode-06-to-0b c l) → decode-06-to-0b c (l ++ m) ≡ decode-06-to-0b c l
+  unfolding decode-06-to-0b wants-06-to-0b
   decode-06-to-0b-same c =
-      pick (eqb c 6) _ _ _ _ select-same
-      (pick (eqb c 7) _ _ _ _ rising-same
-      (pick (eqb c 8) _ _ _ _ falling-same
-      (pick (eqb c 9) _ _ _ _ pins-same
-      (pick (eqb c 10) _ _ _ _ stored-image-same
-      (pick (eqb c 11) _ _ _ _ view-same (λ g. refl))))))
+      pick (eqb c 6) _ _ _ _ _ _ select-same
+      (pick (eqb c 7) _ _ _ _ _ _ rising-same
+      (pick (eqb c 8) _ _ _ _ _ _ falling-same
+      (pick (eqb c 9) _ _ _ _ _ _ pins-same
+      (pick (eqb c 10) _ _ _ _ _ _ stored-image-same
+      (pick (eqb c 11) _ _ _ _ _ _ view-same (λ g. refl))))))
 
-  decode-01-to-05-same : (c : ℕ) → Has l (decode-01-to-05 c l) → decode-01-to-05 c (l ++ m) ≡ decode-01-to-05 c l
-  unfolding decode-01-to-05
+  decode-01-to-05-same : (c : ℕ) → Has l (wants c) (decode-01-to-05 c l) → decode-01-to-05 c (l ++ m) ≡ decode-01-to-05 c l
+  unfolding decode-01-to-05 wants
   decode-01-to-05-same c =
-      pick (eqb c 1) _ _ _ _ start-same
-      (pick (eqb c 2) _ _ _ _ accelerations-same
-      (pick (eqb c 3) _ _ _ _ temperature-same
-      (pick (eqb c 4) _ _ _ _ supply-same
-      (pick (eqb c 5) _ _ _ _ due-same (decode-06-to-0b-same c)))))
+      pick (eqb c 1) _ _ _ _ _ _ start-same
+      (pick (eqb c 2) _ _ _ _ _ _ accelerations-same
+      (pick (eqb c 3) _ _ _ _ _ _ temperature-same
+      (pick (eqb c 4) _ _ _ _ _ _ supply-same
+      (pick (eqb c 5) _ _ _ _ _ _ due-same (decode-06-to-0b-same c)))))
 
-  decoded-same : 0 < length l → Has l (decode-01-to-05 (byte-at 0 l) l) → decoded (l ++ m) ≡ decoded l
+  decoded-same : 0 < length l → Has l (wants (byte-at 0 l)) (decode-01-to-05 (byte-at 0 l) l) → decoded (l ++ m) ≡ decoded l
   unfolding decoded
   decoded-same h g =
       let p : 0 < length (l ++ m) = simp length-append (omega arith) in
       rw (lt-ltb 0 (length (l ++ m)) p, lt-ltb 0 (length l) h, b-same 0 h) (decode-01-to-05-same (byte-at 0 l) g)
 
-  -- the longest command has 32 bytes
-  pub decoded-more : 32 ≤ length l → decoded (l ++ m) ≡ decoded l
-  decoded-more h = let p : 0 < length l = omega arith in decoded-same p (long h)
+  -- a command with all its bytes there stays the same, whatever follows
+  pub decoded-whole : wants (byte-at 0 l) ≤ length l → decoded (l ++ m) ≡ decoded l
+  decoded-whole h = decoded-same (omega (arith, wants-some (byte-at 0 l))) (long h)
 
   -- a command that is not bad stays the same, whatever follows
   pub decoded-good : 0 < length l → is-bad (decoded l) ≡ false → decoded (l ++ m) ≡ decoded l

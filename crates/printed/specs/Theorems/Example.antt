@@ -20,7 +20,9 @@ use Rattle.commands.specs.Decode.{number-at, signed, temperature, view, decode-
 use Rattle.bench.specs.Text.{word, bit, view-text, due-text}
 use Rattle.bench.specs.Line.{commanded, added-text, pins, line}
 use Rattle.laws.specs.Iterate.{iterate}
-use Rattle.bench.specs.Run.{turn, whole}
+use Rattle.machine.specs.Machine as M
+use Rattle.machine.specs.Machine.{turn}
+use Rattle.bench.specs.Run.{whole}
 
 -- 03 00 00 4e 20 0b 00 0b 16 ff
 abbrev pub input : List ℕ
@@ -31,5 +33,5 @@ text = ascii "03 ok 0 F F\n" ++ ascii "0b ok 0 F F 02\n" ++ ascii "0b ok 0 F F -
 
 -- it begins with the stock image at time 0
 pub example : whole false (after-start (record { 0 = 0; 1 = 0 }) stock) input .text ≡ text
-unfolding facts wrong-length out-of-range late too-late goes-back before-due beside-due first-found refusal start-refusal unless-refused after-start leaves adds shadowing peek shown interrupt shows-new-data output data-output spi-drives i2c-holds drive-letter view-value is-set withheld unreadable image-blocks locked Pin.output Pin.threshold-output Pin.motion-output configure number-at signed temperature view decode-06-to-0b decode-01-to-05 decoded call-size size is-bad word bit view-text due-text commanded added-text pins line turn iterate whole
+unfolding facts wrong-length out-of-range late too-late goes-back before-due beside-due first-found refusal start-refusal unless-refused after-start leaves adds shadowing peek shown interrupt shows-new-data output data-output spi-drives i2c-holds drive-letter view-value is-set withheld unreadable image-blocks locked Pin.output Pin.threshold-output Pin.motion-output configure number-at signed temperature view decode-06-to-0b decode-01-to-05 decoded call-size size is-bad word bit view-text due-text commanded added-text pins line turn iterate M.whole
 example = refl

@@ -1,5 +1,5 @@
 use native.Mathlib.Omega.{arith}
-use Rattle.bench.specs.Theorems.Put.{none, _then_, says}
+use Rattle.machine.specs.Theorems.Put.{none, _then_, says}
 use Rattle.bench.specs.Text.{image-text}
 use Rattle.bench.specs.Theorems.Text.{length-hexes}
 use Rattle.bench.specs.Line.{extra-adds, added-text}

@@ -1,5 +1,5 @@
 use native.Mathlib.Omega.{arith}
-use Rattle.bench.specs.Theorems.Put.{_then_, says}
+use Rattle.machine.specs.Theorems.Put.{_then_, says}
 use Rattle.bench.specs.Line.{pins}
 use borrow.Author.Needs.{needs}
 use Rattle.bench.proofs.lines.put_pins.Statement.{statement}

@@ -1,5 +1,5 @@
 use native.Mathlib.Omega.{arith}
-use Rattle.bench.specs.Theorems.Put.{says}
+use Rattle.machine.specs.Theorems.Put.{says}
 use Rattle.bench.specs.Text.{word}
 use Rattle.calls.specs.Table.{refusal-number}
 use borrow.Author.Needs.{needs}

@@ -1,6 +1,6 @@
 use mathlib.Core.Path.{refl}
 use native.Mathlib.Omega.{arith}
-use Rattle.bench.specs.Theorems.Put.{_then_, says}
+use Rattle.machine.specs.Theorems.Put.{_then_, says}
 use borrow.Author.Needs.{needs}
 use Rattle.bench.proofs.lines.put_stored.Statement.{statement}
 use Rattle.bench.proofs.lines.put_stored.Tie as tie

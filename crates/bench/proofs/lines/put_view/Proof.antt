@@ -1,5 +1,5 @@
 use native.Mathlib.Omega.{arith}
-use Rattle.bench.specs.Theorems.Put.{_then_, says}
+use Rattle.machine.specs.Theorems.Put.{_then_, says}
 use Rattle.bench.specs.Text.{view-text}
 use Rattle.bma150.specs.Values.{view-value}
 use borrow.Author.Needs.{needs}

@@ -1,4 +1,4 @@
-use Rattle.bench.specs.Theorems.Put.{_then_, says}
+use Rattle.machine.specs.Theorems.Put.{_then_, says}
 use borrow.Author.Needs.{needs}
 use Rattle.bench.proofs.text.put_hex.Statement.{statement}
 use Rattle.bench.proofs.text.put_hex.Tie as tie

@@ -4,8 +4,8 @@ use mathlib.Core.Path.{_≡_, ap}
 use Prim.Native.Nat.{_+_, _-_, _≤_}
 use lib.ListN.{length, take}
 use lib.Seq.{take-all}
-use Rattle.bench.specs.Put.{Put}
-use Rattle.bench.specs.Theorems.Put.{none, _then_, says}
+use Rattle.machine.specs.Put.{Put}
+use Rattle.machine.specs.Theorems.Put.{none, _then_, says}
 use Rattle.bench.specs.Text.{hexes}
 use Rattle.bench.specs.Theorems.Text.{one-more-hex}
 use Rattle.bench.proofs.text.put_hexes.Statement.{statement}

@@ -4,8 +4,8 @@ use mathlib.Core.Path.{_≡_}
 use Prim.Native.Nat.{_+_, _-_, _≤_}
 use lib.ListN.{length, take}
 use lib.Seq.{take-all}
-use Rattle.bench.specs.Put.{Put}
-use Rattle.bench.specs.Theorems.Put.{none, _then_, says, one-more}
+use Rattle.machine.specs.Put.{Put}
+use Rattle.machine.specs.Theorems.Put.{none, _then_, says, one-more}
 use Rattle.bench.proofs.text.put_word.Statement.{statement}
 use Rattle.bench.proofs.text.put_word.Tie as tie
 

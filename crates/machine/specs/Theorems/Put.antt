@@ -7,7 +7,7 @@ use native.Mathlib.Numerals.{add-one}
 use native.Mathlib.Omega.{arith}
 use lib.ListN.{length, take, drop, getD, set, length-append, length-take, length-drop}
 use lib.Seq.{sets, sets-eq, length-sets, take-suc, take-at, getD-set-other, getD-drop}
-use Rattle.bench.specs.Put.{Put}
+use Rattle.machine.specs.Put.{Put}
 
 sets-append : (d : List ℕ) (o : ℕ) (l m : List ℕ) → sets (sets d o l) (o + length l) m ≡ sets d o (l ++ m)
 sets-append d o [] m = ap (λ (k : ℕ). sets d k m) (add-zero o)

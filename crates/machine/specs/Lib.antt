@@ -1,0 +1,5 @@
+pub mod Put
+pub mod Machine
+pub mod Block
+pub mod Pieces
+pub mod Theorems
