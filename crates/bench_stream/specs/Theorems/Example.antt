@@ -13,7 +13,7 @@ use Rattle.interrupts.specs.State.{configure}
 use Rattle.deadlines.specs.Deadlines.{is-set}
 use Rattle.calls.specs.Facts.{facts}
 use Rattle.calls.specs.Table.{wrong-length, out-of-range, late, too-late, goes-back, before-due, beside-due, first-found, refusal, start-refusal, unless-refused}
-use Rattle.sensor.specs.Image.{stock, shadowing}
+use Rattle.sensor.specs.Image.{shadowing}
 use Rattle.sensor.specs.RegisterReads.{peek, shown}
 use Rattle.sensor.specs.Mode.{interrupt, shows-new-data}
 use Rattle.serial.specs.Outputs.{output, data-output, spi-drives, i2c-holds}
@@ -27,7 +27,7 @@ use Rattle.bench.specs.Line.{commanded, added-text, pins, line}
 use Rattle.bench.specs.declared.Ran.{Ran}
 use Rattle.bench.specs.Block.{is-whole, block, answer}
 use Rattle.bench_stream.specs.declared.Turn.{Turn}
-use Rattle.bench_stream.specs.Loop.{beginning, first, goes-on, arrived, served-by, Did, Turns}
+use Rattle.bench_stream.specs.Loop.{beginning, goes-on, arrived, served-by, Did, Turns}
 
 abbrev sent : List ℕ
 sent = 0x0b ∷ 0x00 ∷ []

@@ -5,7 +5,6 @@ use mathlib.Core.Logic.{inl, inr}
 use mathlib.Core.List.{List, [], _++_, append-nil}
 use Prim.Native.Nat.{ℕ, _+_, _-_, _^_, _≤_}
 use native.Mathlib.Nat.{add-zero, zero-add}
-use lib.Dec.{eqb}
 use lib.ListN.{length, take, drop}
 use lib.Seq.{take-add}
 use Rattle.machine.specs.Pieces.{Between, between, Steps, begun, brought, ended, ran}
@@ -47,7 +46,7 @@ module _ (trace : Bool) where
     read-steps : (c : List ℕ) (k got : ℕ) → t .over ≡ false → take k c ≡ kept-of t b → Adds l w (take got (drop k c)) [] (between-of (arrived k got (t .sensor)) c)
     read-steps c k got more same =
         let all : kept-of t b ++ take got (drop k c) ≡ kept c 0 (k + got) = ap (λ (x : List ℕ). x ++ take got (drop k c)) (sym same) ∙ sym (take-add k got c) ∙ ap (λ (i : ℕ). take i c) (less (k + got)) in
-        silent (renamed _ _ (same-between refl all refl refl) (by-read (take got (drop k c)) (eqb got 0) (renamed _ _ (same-between refl refl more going) h)))
+        silent (renamed _ _ (same-between refl all refl refl) (by-read (take got (drop k c)) (arrived k got (t .sensor) .over) (renamed _ _ (same-between refl refl more going) h)))
 
     failed-steps : (c : List ℕ) (k : ℕ) → t .over ≡ false → take k c ≡ kept-of t b → Adds l w [] [] (between-of (cut-off k (t .sensor)) c)
     failed-steps c k more same =

@@ -18,7 +18,7 @@ use Rattle.bma150.specs.declared.host.Bma150.{Bma150}
 use Rattle.bench.specs.declared.Ran.{Ran}
 use Rattle.bench.specs.Block.{block, answer}
 use Rattle.bench_stream.specs.declared.Turn.{Turn}
-use Rattle.bench_stream.specs.Loop.{first, kept, kept-of, goes-on}
+use Rattle.bench_stream.specs.Loop.{first, kept, kept-of, goes-on, cut-off, served-by}
 
 -- ---- laws of the buffer
 
@@ -65,13 +65,13 @@ pub contrary : {A : Type 0} → _≡_ {A = Bool} false true → A
 contrary e = let z : _≡_ {A = ℕ} 0 1 = ap (λ (b : Bool). cond b 1 0) e in let y : ⊥ = omega arith in absurd y
 
 -- where something is left to do, the loop has not stopped
-pub not-stopped : (t : Turn) → goes-on t ≡ true → t .stop ≡ false
+by-stop : (t : Turn) (z : Bool) → t .stop ≡ z → goes-on t ≡ true → t .stop ≡ false
 unfolding goes-on
-not-stopped t e = go (t .stop) refl e
-  where
-    go : (z : Bool) → t .stop ≡ z → cond z false (cond (t .unread) false (cond (t .unwritten) false (cond (t .over) (ltb (t .at) (t .have)) true))) ≡ true → t .stop ≡ false
-    go true p f = contrary f
-    go false p f = p
+by-stop t true p e = contrary (rw p at e)
+by-stop t false p e = p
+
+pub not-stopped : (t : Turn) → goes-on t ≡ true → t .stop ≡ false
+not-stopped t e = by-stop t (t .stop) refl e
 
 pub bytes-left : (t : Turn) → goes-on t ≡ true → t .over ≡ true → t .at + 1 ≤ t .have
 unfolding goes-on
@@ -83,19 +83,35 @@ bytes-left t e o = go (t .stop) (t .unread) (t .unwritten) (rw o at e)
     go false false true f = contrary f
     go false false false f = omega (arith, ltb-true (t .at) (t .have) f)
 
--- nothing is left to do only if refusal 7 was met, a read or a write failed, or the input is over and no byte is kept
-pub ends-because : (t : Turn) → goes-on t ≡ false → (t .stop ≡ true) ⊎ ((t .unread ≡ true) ⊎ ((t .unwritten ≡ true) ⊎ ((t .over ≡ true) × (t .have ≤ t .at))))
+-- why a loop may end: refusal 7 was met, a read or a write failed, or the input is over and no byte is kept
+abbrev pub Because : Turn → Type 0
+Because t = (t .stop ≡ true) ⊎ ((t .unread ≡ true) ⊎ ((t .unwritten ≡ true) ⊎ ((t .over ≡ true) × (t .have ≤ t .at))))
+
+by-fields : (t : Turn) (z r w o : Bool) → t .stop ≡ z → t .unread ≡ r → t .unwritten ≡ w → t .over ≡ o → goes-on t ≡ false → Because t
 unfolding goes-on
-ends-because t e = go (t .stop) (t .unread) (t .unwritten) (t .over) refl refl refl refl e
-  where
-    go : (z r w o : Bool) → t .stop ≡ z → t .unread ≡ r → t .unwritten ≡ w → t .over ≡ o
-        → cond z false (cond r false (cond w false (cond o (ltb (t .at) (t .have)) true))) ≡ false
-        → (t .stop ≡ true) ⊎ ((t .unread ≡ true) ⊎ ((t .unwritten ≡ true) ⊎ ((t .over ≡ true) × (t .have ≤ t .at))))
-    go true r w o p q x y f = inl p
-    go false true w o p q x y f = inr (inl q)
-    go false false true o p q x y f = inr (inr (inl x))
-    go false false false true p q x y f = inr (inr (inr (y, ltb-false (t .at) (t .have) f)))
-    go false false false false p q x y f = contrary (sym f)
+by-fields t true r w o p q x y e = inl p
+by-fields t false true w o p q x y e = inr (inl q)
+by-fields t false false true o p q x y e = inr (inr (inl x))
+by-fields t false false false true p q x y e = inr (inr (inr (y, ltb-false (t .at) (t .have) (rw (p, q, x, y) at e))))
+by-fields t false false false false p q x y e = contrary (sym (rw (p, q, x, y) at e))
+
+-- nothing is left to do only for one of these
+pub ends-because : (t : Turn) → goes-on t ≡ false → Because t
+ends-because t e = by-fields t (t .stop) (t .unread) (t .unwritten) (t .over) refl refl refl refl e
+
+-- a read that failed ends the loop
+pub failed-read-ends : (k : ℕ) (s : Bma150) → goes-on (cut-off k s) ≡ false
+unfolding goes-on
+failed-read-ends k s = refl
+
+either-way : (z : Bool) → cond z false false ≡ false
+either-way true = refl
+either-way false = refl
+
+-- so does a text that `write` did not take
+pub failed-write-ends : (t : Turn) (r : Ran) → goes-on (served-by t r false) ≡ false
+unfolding goes-on
+failed-write-ends t r = either-way (r .stop)
 
 -- so where no read and no write has failed it has stopped, or no byte is kept
 pub at-end : (t : Turn) (buf : List ℕ) → goes-on t ≡ false → t .unread ≡ false → t .unwritten ≡ false → AtEnd (between-of t buf)
