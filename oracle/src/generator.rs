@@ -1,6 +1,7 @@
 //! Random command streams. The generator holds the model, so that it knows
 //! which calls are accepted and when something is due.
 mod actions;
+mod both;
 mod buses;
 mod corners;
 mod marks;
@@ -35,6 +36,8 @@ enum Pace {
     Still,
     /// Up to a microsecond.
     Swift,
+    /// A microsecond.
+    Even,
     /// A few microseconds.
     Bus,
     /// On sample edges, or one unit beside them.
@@ -62,6 +65,8 @@ pub struct Generator {
     phases: u128,
     /// Levels of the I2C lines as last reported: clock, data.
     lines: [bool; 2],
+    /// Whether the data line is reported low while the sensor holds it.
+    wired: bool,
     /// The select line as last set.
     selected: bool,
     /// Calls left before the transfer at hand breaks off.
@@ -88,6 +93,7 @@ impl Generator {
             credit: 4000,
             phases: 0,
             lines: [true; 2],
+            wired: true,
             selected: false,
             breaks_in: None,
             codes: [0; 3],

@@ -1,1 +1,4 @@
 pub mod Frames
+pub mod Reads
+pub mod Broken
+pub mod Silence

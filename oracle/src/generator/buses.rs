@@ -32,8 +32,9 @@ impl Generator {
         self.send(Command::Select(level));
     }
 
-    /// Report new I2C levels. The data line is low while the sensor holds it.
-    fn pins(&mut self, clock: bool, data: bool) {
+    /// Report new I2C levels. On a wired bus the data line is low while the
+    /// sensor holds it.
+    pub(super) fn pins(&mut self, clock: bool, data: bool) {
         if !self.goes_on() {
             return;
         }
@@ -42,7 +43,7 @@ impl Generator {
         if self.random.below(400) < self.profile.stutter {
             self.unchanged();
         }
-        let data = data && self.model.data_output() != crate::signals::Drive::Low;
+        let data = data && !self.held_low();
         let [old_clock, old_data] = self.lines;
         let levels = [old_clock, old_data, clock, data]
             .into_iter()
@@ -51,8 +52,11 @@ impl Generator {
         if self.random.below(400) < self.profile.stutter {
             self.report(levels);
         }
-        let held = self.model.data_output() == crate::signals::Drive::Low;
-        self.lines = [clock, data && !held];
+        self.lines = [clock, data && !self.held_low()];
+    }
+
+    fn held_low(&self) -> bool {
+        self.wired && self.model.data_output() == crate::signals::Drive::Low
     }
 
     /// A report of levels that have not changed.
@@ -217,11 +221,11 @@ impl Generator {
         self.look();
     }
 
-    fn rise(&mut self, data: bool) {
+    pub(super) fn rise(&mut self, data: bool) {
         self.clock_edge(|at| Command::Rising { at, data });
     }
 
-    fn fall(&mut self) {
+    pub(super) fn fall(&mut self) {
         self.clock_edge(|at| Command::Falling { at });
     }
 

@@ -125,6 +125,7 @@ impl Generator {
         let top = match self.pace {
             Pace::Still => 0,
             Pace::Swift => MICROSECOND,
+            Pace::Even => return self.advance(MICROSECOND),
             Pace::Bus => 8 * MICROSECOND,
             Pace::Slow => MILLISECOND,
             Pace::Edges => {

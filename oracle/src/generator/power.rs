@@ -82,7 +82,7 @@ impl Generator {
         self.serve(n);
     }
 
-    fn outage_short(&mut self) {
+    pub(super) fn outage_short(&mut self) {
         self.tick();
         let low = self.low_supply();
         self.supply(low);
@@ -192,7 +192,7 @@ impl Generator {
         self.image_at_now();
     }
 
-    fn image_at_now(&mut self) {
+    pub(super) fn image_at_now(&mut self) {
         let at = self.now.max(self.model.last());
         self.send(Command::StoredImage { at });
     }

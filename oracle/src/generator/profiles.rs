@@ -29,10 +29,10 @@ pub struct Profile {
 }
 
 use Image::{Any, Automatic, Interrupts, Motion, Near, Stock};
-use Pace::{Bus, Edges, Slow, Still, Swift};
+use Pace::{Bus, Edges, Even, Slow, Still, Swift};
 use Story::{
-    Alarm, Answer, Band, Blind, Copy, Dimmed, Drowse, Duration, Flicker, Locked, Midway, Nap,
-    Orphan, Pair, Resume, Shake, Switch, Toggle, Unseen,
+    Alarm, Answer, Band, Beside, Blind, Copy, Crossed, Dimmed, Drowse, Duration, Flicker, Hushed,
+    Locked, Midway, Nap, Orphan, Pair, Resume, Shake, Shared, Switch, Toggle, Unseen, Within,
 };
 
 const PLAIN: Profile = Profile {
@@ -53,7 +53,7 @@ const PLAIN: Profile = Profile {
     automatic: 10,
 };
 
-pub static PROFILES: [Profile; 12] = [
+pub static PROFILES: [Profile; 13] = [
     Profile {
         name: "i2c",
         weights: [1, 2, 0, 1, 0, 2, 0, 8, 10, 3, 3, 2, 0, 1, 4, 1, 3],
@@ -172,6 +172,21 @@ pub static PROFILES: [Profile; 12] = [
         stutter: 0,
         asides: 1,
         automatic: 0,
+        ..PLAIN
+    },
+    Profile {
+        name: "buses",
+        weights: [1, 1, 0, 0, 1, 1, 0, 1, 1, 0, 1, 2, 1, 1, 1, 1, 60],
+        stories: &[
+            Beside, Beside, Within, Within, Crossed, Crossed, Hushed, Hushed, Shared,
+        ],
+        images: [Stock, Stock, Stock, Near],
+        paces: [Even, Swift, Bus, Edges],
+        broken: 8,
+        stutter: 2,
+        asides: 2,
+        late: 0,
+        automatic: 2,
         ..PLAIN
     },
 ];

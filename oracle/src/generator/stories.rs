@@ -41,6 +41,16 @@ pub enum Story {
     Unseen,
     /// Shadowing switched off within a read.
     Midway,
+    /// SPI edges within an I2C transfer.
+    Beside,
+    /// I2C reports within an SPI frame.
+    Within,
+    /// SPI frames and an I2C transfer at once.
+    Crossed,
+    /// A soft reset with both buses going on.
+    Hushed,
+    /// Each clock edge given to both buses.
+    Shared,
 }
 
 impl Generator {
@@ -65,6 +75,11 @@ impl Generator {
             Story::Dimmed => self.dimmed(),
             Story::Unseen => self.unseen(),
             Story::Midway => self.midway(),
+            Story::Beside => self.beside(),
+            Story::Within => self.within(),
+            Story::Crossed => self.crossed(),
+            Story::Hushed => self.hushed(),
+            Story::Shared => self.shared(),
         }
     }
 

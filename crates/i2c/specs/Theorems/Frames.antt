@@ -1,356 +1,431 @@
--- Whole frames on the bus, for a sensor that is on, not selected and not quiet.
-use mathlib.Core.Path.{_≡_, refl, sym, ap, _∙_}
-use mathlib.Core.Bool.{Bool, true, false, not, _||_}
+-- Whole transfers, of any length and every byte, as a sensor that hears the bus serves them.
+use mathlib.Core.Path.{_≡_, refl, sym, ap, subst, _∙_}
+use mathlib.Core.Bool.{Bool, true, false}
 use mathlib.Core.List.{List, [], _∷_, _++_}
-use Prim.Native.Nat.{ℕ, _+_, _%_, _≤_, _<_}
-use native.Mathlib.Nat.{add-zero, zero-add}
+use Prim.Native.Nat.{ℕ, zero, suc, _+_, _%_, _≤_, _<_}
+use native.Mathlib.Nat.{add-zero}
 use native.Mathlib.Omega.{arith}
 use borrow.Author.Tests.{lt-ltb, ne-eqb}
 use lib.Dec.{leb→le}
-use lib.ListN.{length, replicate}
+use lib.ListN.{length, drop}
+use lib.Seq.{drop-drop}
 use Rattle.laws.specs.Bools.{or-left, or-right}
 use Rattle.laws.specs.Bytes.{sent-bit, shifted-in, all-shifted-in, seven-bits, bits-make-the-byte}
-use Rattle.i2c.specs.declared.types.Levels.{Levels}
 use Rattle.i2c.specs.declared.types.Edge.{Edge}
 use Rattle.i2c.specs.declared.types.Edge.the-variants.{Still, Start, Stop, Rise, Fall}
 use Rattle.i2c.specs.declared.types.Receive.{Receive}
 use Rattle.i2c.specs.declared.types.Receive.the-variants as R
+use Rattle.i2c.specs.declared.types.Following.{Following}
 use Rattle.i2c.specs.declared.types.Following.the-variants as F
 use Rattle.i2c.specs.declared.types.Answer.the-variants as M
 use Rattle.i2c.specs.declared.types.Phase.{Phase}
 use Rattle.i2c.specs.declared.types.Phase.the-variants as P
-use Rattle.i2c.specs.declared.types.State.{State}
-use Rattle.i2c.specs.declared.types.Action.{Action}
 use Rattle.i2c.specs.declared.types.Action.the-variants as A
-use Rattle.i2c.specs.Bus.{edge, is-condition, is-start, is-rise, is-fall, data-at}
-use Rattle.i2c.specs.Engine.{conditioned, acknowledging, clocks, within-byte, pointer-after, bit-taken, byte-step, at-ninth, followed, acknowledge-step, answered, answer, answer-step, ninth-step, addressed, received, completes, completed, step, written, launched}
+use Rattle.i2c.specs.declared.types.Step.{Step}
+use Rattle.i2c.specs.Bus.{is-condition, is-start, is-rise, is-fall, data-at}
+use Rattle.i2c.specs.Engine.{conditioned, acknowledging, clocks, within-byte, pointer-after, bit-taken, byte-step, at-ninth, followed, acknowledge-step, answered, answer, answer-step, ninth-step, addressed, received, completes, completed, step, written, reads-next}
+use Rattle.i2c.specs.Transfers.{clocked, ninth-clock, byte-frame, address-frame, again, stop, broken, nine-clocks, starts, Pair, Bytes, pairs, write-transfer, Levels8, read-byte, acknowledged, read-address, read-transfer, combined}
+use Rattle.i2c.specs.Target.{Target, target, act, deed, serve, Seen, seen-at, now-shown, left, seen}
+use Rattle.i2c.specs.Answers.{free-and, free, held, acknowledge, silent, silence, frees, broken-answer, address-answer, register-answer, value-answer, pairs-answer, pairs-pointer, write-answer, byte-answer, next-register, bytes-answer, register-after, shown-after, read-answer, read-address-answer}
 
--- ---- a sensor on the bus
+abbrev Shown : Type 0
+Shown = List (ℕ → ℕ)
 
--- the engine, the byte being sent (ff where there is none), and the writes, fetches and noted reads so far, in order
-pub record Target : Type 0 where
-  pub state : State
-  pub sent : ℕ
-  pub done : List Action
+-- the engine in a phase, with its register pointer, bits and byte so far
+abbrev pub at : Phase → (pointer bits shift : ℕ) (low : Bool) (sent : ℕ) → Target
+at p n b x l s = target (record { phase = p; pointer = n; bits = b; shift = x; low = l }) s
 
--- what the engine asked for is done: `fetch` is the byte that a register shows
-unfoldable pub act : (ℕ → ℕ) → Target → State → Action → Target
-act fetch v s A.Nothing = record { state = s; sent = v .sent; done = v .done }
-act fetch v s A.Drop = record { state = s; sent = 0xff; done = v .done }
-act fetch v s (A.Write r x) = record { state = written s false; sent = v .sent; done = v .done ++ (A.Write r x ∷ []) }
-act fetch v s (A.Launch r) = record { state = launched s (fetch r); sent = fetch r; done = v .done ++ (A.Launch r ∷ []) }
-act fetch v s (A.ReadBegan r) = record { state = s; sent = v .sent; done = v .done ++ (A.ReadBegan r ∷ []) }
+-- ---- a report without an event changes nothing
 
-unfoldable pub serve : (ℕ → ℕ) → Target → Edge → Target
-serve fetch v e = let r = step (v .state) e false (v .sent) in act fetch v (r .state) (r .action)
-
-unfoldable pub served : (ℕ → ℕ) → Target → List Edge → Target
-served fetch v [] = v
-served fetch v (e ∷ es) = served fetch (serve fetch v e) es
-
--- ---- reports in which the clock does not move, and the data only while the clock is low, change nothing
-
-pub record Report : Type 0 where
-  pub before : Levels
-  pub after : Levels
-
-unfoldable pub observed : (ℕ → ℕ) → Target → List Report → Target
-observed fetch v [] = v
-observed fetch v (r ∷ rs) = observed fetch (serve fetch v (edge (r .before) (r .after))) rs
-
--- the events of a list of reports, without those that are none
-unfoldable pub and-edge : Edge → List Edge → List Edge
-and-edge Still es = es
-and-edge Start es = Start ∷ es
-and-edge Stop es = Stop ∷ es
-and-edge (Rise d) es = Rise d ∷ es
-and-edge Fall es = Fall ∷ es
-
-unfoldable pub edges : List Report → List Edge
-edges [] = []
-edges (r ∷ rs) = and-edge (edge (r .before) (r .after)) (edges rs)
-
--- a sensor with these parts
-abbrev pub target : Phase → ℕ → ℕ → ℕ → Bool → ℕ → List Action → Target
-target p n b x l s d = record { state = record { phase = p; pointer = n; bits = b; shift = x; low = l }; sent = s; done = d }
-
-still-phase : (fetch : ℕ → ℕ) (p : Phase) (n b x : ℕ) (l : Bool) (s : ℕ) (d : List Action) → serve fetch (target p n b x l s d) Still ≡ target p n b x l s d
+still-phase : (shows : ℕ → ℕ) (p : Phase) (n b x : ℕ) (l : Bool) (s : ℕ) → serve shows (at p n b x l s) Still ≡ at p n b x l s
 unfolding serve act step is-condition is-rise is-fall within-byte at-ninth completes
-still-phase fetch P.Idle n b x l s d = refl
-still-phase fetch (P.Receive k) n b x l s d = refl
-still-phase fetch (P.Acknowledge f m) n b x l s d = refl
-still-phase fetch (P.Read m) n b x l s d = refl
-still-phase fetch (P.MasterAcknowledge a) n b x l s d = refl
+still-phase shows P.Idle n b x l s = refl
+still-phase shows (P.Receive k) n b x l s = refl
+still-phase shows (P.Acknowledge f m) n b x l s = refl
+still-phase shows (P.Read m) n b x l s = refl
+still-phase shows (P.MasterAcknowledge a) n b x l s = refl
 
--- a report without an event changes nothing
-pub still-changes-nothing : (fetch : ℕ → ℕ) (v : Target) → serve fetch v Still ≡ v
-still-changes-nothing fetch v = still-phase fetch (v .state .phase) (v .state .pointer) (v .state .bits) (v .state .shift) (v .state .low) (v .sent) (v .done)
+pub still-changes-nothing : (shows : ℕ → ℕ) (v : Target) → serve shows v Still ≡ v
+still-changes-nothing shows v = still-phase shows (v .state .phase) (v .state .pointer) (v .state .bits) (v .state .shift) (v .state .low) (v .sent)
 
-and-edge-served : (fetch : ℕ → ℕ) (v : Target) (e : Edge) (es : List Edge) → served fetch v (and-edge e es) ≡ served fetch (serve fetch v e) es
-unfolding served and-edge
-and-edge-served fetch v Still es = rw (still-changes-nothing fetch v)
-and-edge-served fetch v Start es = refl
-and-edge-served fetch v Stop es = refl
-and-edge-served fetch v (Rise d) es = refl
-and-edge-served fetch v Fall es = refl
+-- ---- lists of events one after the other
 
--- so a list of reports does what its events do, with any number of other reports in between
-pub reports-between : (fetch : ℕ → ℕ) (rs : List Report) (v : Target) → observed fetch v rs ≡ served fetch v (edges rs)
-unfolding observed edges served
-reports-between fetch [] v = refl
-reports-between fetch (r ∷ rs) v =
-    let e = edge (r .before) (r .after) in
-    reports-between fetch rs (serve fetch v e) ∙ sym (and-edge-served fetch v e (edges rs))
+drop-more : (n : ℕ) (fs : Shown) → drop n (drop 1 fs) ≡ drop (suc n) fs
+drop-more n fs = drop-drop n 1 fs ∙ (let e : 1 + n ≡ suc n = omega arith in ap (λ (k : ℕ). drop k fs) e)
 
--- ---- frames as lists of events
+pub left-append : (es ds : List Edge) (v : Target) (fs : Shown) → left v (es ++ ds) fs ≡ left (left v es fs) ds (drop (length es) fs)
+unfolding left
+left-append [] ds v fs = refl
+left-append (e ∷ es) ds v fs =
+    left-append es ds (serve (now-shown fs) v e) (drop 1 fs)
+    ∙ ap (λ (gs : Shown). left (left (serve (now-shown fs) v e) es (drop 1 fs)) ds gs) (drop-more (length es) fs)
 
--- bits clocked in, each taken at a rise and followed by a fall (UM10204 3.1.3)
-unfoldable pub clocked : List Bool → List Edge
-clocked [] = []
-clocked (d ∷ ds) = Rise d ∷ Fall ∷ clocked ds
+pub seen-append : (es ds : List Edge) (v : Target) (fs : Shown) → seen v (es ++ ds) fs ≡ seen v es fs ++ seen (left v es fs) ds (drop (length es) fs)
+unfolding seen left
+seen-append [] ds v fs = refl
+seen-append (e ∷ es) ds v fs =
+    ap (λ (l : List Seen). seen-at (now-shown fs) v e ∷ l)
+    (seen-append es ds (serve (now-shown fs) v e) (drop 1 fs)
+    ∙ ap (λ (gs : Shown). seen (serve (now-shown fs) v e) es (drop 1 fs) ++ seen (left (serve (now-shown fs) v e) es (drop 1 fs)) ds gs) (drop-more (length es) fs))
 
--- a byte of the master's up to its eighth rise, most significant bit first (UM10204 3.1.5)
-abbrev pub eight-rises : ℕ → List Edge
-eight-rises b = clocked (seven-bits b) ++ (Rise (sent-bit b 7) ∷ [])
+-- the sensor serves a list of events: what is seen, and how it is left
+pub record Serves (v : Target) (es : List Edge) (fs : Shown) (answer : List Seen) (w : Target) : Type 0 where
+  pub is-seen : seen v es fs ≡ answer
+  pub is-left : left v es fs ≡ w
 
--- the eighth fall and the ninth clock (UM10204 3.1.6), whatever the level of the data line
-abbrev pub ninth-clock : Bool → List Edge
-ninth-clock level = Fall ∷ Rise level ∷ Fall ∷ []
+-- one list after the other
+pub and-serves : {v w x : Target} {es ds : List Edge} {fs : Shown} {a b : List Seen} → Serves v es fs a w → Serves w ds (drop (length es) fs) b x → Serves v (es ++ ds) fs (a ++ b) x
+and-serves {v} {w} {x} {es} {ds} {fs} {a} {b} p q =
+    record {
+      is-seen = seen-append es ds v fs
+          ∙ ap (λ (l : List Seen). l ++ seen (left v es fs) ds (drop (length es) fs)) (p .is-seen)
+          ∙ ap (λ (u : Target). a ++ seen u ds (drop (length es) fs)) (p .is-left)
+          ∙ ap (λ (l : List Seen). a ++ l) (q .is-seen);
+      is-left = left-append es ds v fs ∙ ap (λ (u : Target). left u ds (drop (length es) fs)) (p .is-left) ∙ q .is-left;
+    }
 
-abbrev pub byte-frame : ℕ → Bool → List Edge
-byte-frame b level = eight-rises b ++ ninth-clock level
+-- ---- START and STOP at any point drop what was going on and do nothing else
 
--- START and an address byte (UM10204 3.1.4 and 3.1.10), up to its eighth rise
-abbrev pub address-frame : ℕ → List Edge
-address-frame b = Start ∷ Fall ∷ eight-rises b
+pub start-drops : (shows : ℕ → ℕ) (v : Target) → (serve shows v Start ≡ at (P.Receive R.Address) (v .state .pointer) 0 0 false 0xff) × (deed v Start ≡ A.Drop)
+unfolding serve act step is-condition is-start conditioned
+start-drops shows v = (refl, refl)
 
--- the pin after each event: true while the sensor holds it low
-unfoldable pub lows : (ℕ → ℕ) → Target → List Edge → List Bool
-lows fetch v [] = []
-lows fetch v (e ∷ es) = serve fetch v e .state .low ∷ lows fetch (serve fetch v e) es
+pub stop-drops : (shows : ℕ → ℕ) (v : Target) → (serve shows v Stop ≡ at P.Idle (v .state .pointer) 0 0 false 0xff) × (deed v Stop ≡ A.Drop)
+unfolding serve act step is-condition is-start conditioned
+stop-drops shows v = (refl, refl)
 
-served-append : (fetch : ℕ → ℕ) (es fs : List Edge) (v : Target) → served fetch v (es ++ fs) ≡ served fetch (served fetch v es) fs
-unfolding served
-served-append fetch [] fs v = refl
-served-append fetch (e ∷ es) fs v = served-append fetch es fs (serve fetch v e)
+-- ---- bits of a byte received
 
--- ---- START and STOP at any point drop what was going on and cause no write
+module _ (k : Receive) (p s : ℕ) where
+  rise-step : (b x : ℕ) (d : Bool) → b < 7
+      → step (at (P.Receive k) p b x false s .state) (Rise d) false s ≡ record { state = at (P.Receive k) p (b + 1) (shifted-in x d) false s .state; action = A.Nothing }
+  unfolding step is-condition is-rise is-fall data-at within-byte byte-step
+  rise-step b x d h = rw (lt-ltb b 7 h)
 
-pub start-drops : (fetch : ℕ → ℕ) (v : Target) → serve fetch v Start ≡ target (P.Receive R.Address) (v .state .pointer) 0 0 false 0xff (v .done)
-unfolding serve act step is-condition is-start is-rise is-fall data-at conditioned acknowledging within-byte byte-step bit-taken pointer-after at-ninth ninth-step acknowledge-step followed answer-step answer answered completes completed received addressed
-start-drops fetch v = refl
+  -- a rise is a bit received
+  rise-served : (f : ℕ → ℕ) (b x : ℕ) (d : Bool) → b < 7 → serve f (at (P.Receive k) p b x false s) (Rise d) ≡ at (P.Receive k) p (b + 1) (shifted-in x d) false s
+  unfolding serve act
+  rise-served f b x d h = ap (λ (r : Step). act f (r .state) s (r .action)) (rise-step b x d h)
 
-pub stop-drops : (fetch : ℕ → ℕ) (v : Target) → serve fetch v Stop ≡ target P.Idle (v .state .pointer) 0 0 false 0xff (v .done)
-unfolding serve act step is-condition is-start is-rise is-fall data-at conditioned acknowledging within-byte byte-step bit-taken pointer-after at-ninth ninth-step acknowledge-step followed answer-step answer answered completes completed received addressed
-stop-drops fetch v = refl
+  rise-seen : (f : ℕ → ℕ) (b x : ℕ) (d : Bool) → b < 7 → seen-at f (at (P.Receive k) p b x false s) (Rise d) ≡ free
+  unfolding serve act
+  rise-seen f b x d h = ap (λ (r : Step). record { low = act f (r .state) s (r .action) .state .low; deed = r .action }) (rise-step b x d h)
 
--- ---- the address
+  -- a fall is nothing
+  fall-served : (f : ℕ → ℕ) (b x : ℕ) → serve f (at (P.Receive k) p b x false s) Fall ≡ at (P.Receive k) p b x false s
+  unfolding serve act step is-condition is-rise is-fall within-byte at-ninth completes
+  fall-served f b x = refl
 
-module _ (fetch : ℕ → ℕ) (v : Target) (level : Bool) where
-  -- after START and 70 hex the pin is held low from the eighth fall to the ninth, and a register byte follows
-  pub write-address-held : lows fetch v (address-frame 0x70 ++ ninth-clock level) ≡ replicate 17 false ++ (true ∷ true ∷ false ∷ [])
-  unfolding lows clocked serve act step is-condition is-start is-rise is-fall data-at conditioned acknowledging within-byte byte-step bit-taken pointer-after at-ninth ninth-step acknowledge-step followed answer-step answer answered completes completed received addressed
-  write-address-held = refl
+  fall-seen : (f : ℕ → ℕ) (b x : ℕ) → seen-at f (at (P.Receive k) p b x false s) Fall ≡ free
+  unfolding serve act step is-condition is-rise is-fall within-byte at-ninth completes
+  fall-seen f b x = refl
 
-  pub write-address : served fetch v (address-frame 0x70 ++ ninth-clock level) ≡ target (P.Receive R.Control) (v .state .pointer) 0 0 false 0xff (v .done)
-  unfolding served clocked serve act step is-condition is-start is-rise is-fall data-at conditioned acknowledging within-byte byte-step bit-taken pointer-after at-ninth ninth-step acknowledge-step followed answer-step answer answered completes completed received addressed
-  write-address = refl
+  one-rise : (b x : ℕ) (d : Bool) (fs : Shown) → b < 7 → Serves (at (P.Receive k) p b x false s) (Rise d ∷ []) fs (free ∷ []) (at (P.Receive k) p (b + 1) (shifted-in x d) false s)
+  unfolding seen left
+  one-rise b x d fs h = record { is-seen = ap (λ (a : Seen). a ∷ []) (rise-seen (now-shown fs) b x d h); is-left = rise-served (now-shown fs) b x d h }
 
-  -- after START and 71 hex too; the ninth fall fetches the first byte
-  pub read-address-held : lows fetch v (address-frame 0x71 ++ (Fall ∷ Rise level ∷ [])) ≡ replicate 17 false ++ (true ∷ true ∷ [])
-  unfolding lows clocked serve act step is-condition is-start is-rise is-fall data-at conditioned acknowledging within-byte byte-step bit-taken pointer-after at-ninth ninth-step acknowledge-step followed answer-step answer answered completes completed received addressed
-  read-address-held = refl
+  one-fall : (b x : ℕ) (fs : Shown) → Serves (at (P.Receive k) p b x false s) (Fall ∷ []) fs (free ∷ []) (at (P.Receive k) p b x false s)
+  unfolding seen left
+  one-fall b x fs = record { is-seen = ap (λ (a : Seen). a ∷ []) (fall-seen (now-shown fs) b x); is-left = fall-served (now-shown fs) b x }
 
-  pub read-address : served fetch v (address-frame 0x71 ++ (Fall ∷ Rise level ∷ [])) ≡ target (P.Acknowledge F.Read 2) (v .state .pointer) 0 0 true 0xff (v .done)
-  unfolding served clocked serve act step is-condition is-start is-rise is-fall data-at conditioned acknowledging within-byte byte-step bit-taken pointer-after at-ninth ninth-step acknowledge-step followed answer-step answer answered completes completed received addressed
-  read-address = refl
-
--- ---- bytes received
-
-module _ (fetch : ℕ → ℕ) (k : Receive) (p : ℕ) (l : Bool) (s : ℕ) (done : List Action) where
-  one-bit : (b x : ℕ) (d : Bool) → b < 7
-      → serve fetch (serve fetch (target (P.Receive k) p b x l s done) (Rise d)) Fall ≡ target (P.Receive k) p (b + 1) (shifted-in x d) l s done
-  unfolding serve act step is-condition is-start is-rise is-fall data-at conditioned acknowledging within-byte byte-step bit-taken pointer-after at-ninth ninth-step acknowledge-step followed answer-step answer answered completes completed received addressed
-  one-bit b x d h = rw (lt-ltb b 7 h)
-
-  -- fewer than eight bits: nothing is done
-  pub bits-received : (ds : List Bool) (b x : ℕ) → b + length ds ≤ 7
-      → served fetch (target (P.Receive k) p b x l s done) (clocked ds) ≡ target (P.Receive k) p (b + length ds) (all-shifted-in x ds) l s done
-  unfolding served clocked all-shifted-in
-  bits-received [] b x h = rw add-zero
-  bits-received (d ∷ ds) b x h =
+  -- fewer than eight bits: nothing is seen and nothing is done
+  pub bits-received : (ds : List Bool) (b x : ℕ) (fs : Shown) → b + length ds ≤ 7
+      → Serves (at (P.Receive k) p b x false s) (clocked ds) fs (frees ds) (at (P.Receive k) p (b + length ds) (all-shifted-in x ds) false s)
+  unfolding seen left clocked all-shifted-in frees
+  bits-received [] b x fs h = record { is-seen = refl; is-left = rw add-zero }
+  bits-received (d ∷ ds) b x fs h =
       let e : b + 1 + length ds ≡ b + length (d ∷ ds) = omega arith in
-      ap (λ (v : Target). served fetch v (clocked ds)) (one-bit b x d (omega arith))
-      ∙ bits-received ds (b + 1) (shifted-in x d) (rw e h)
-      ∙ ap (λ (n : ℕ). target (P.Receive k) p n (all-shifted-in (shifted-in x d) ds) l s done) e
+      let less : b < 7 = omega arith in
+      let rest = bits-received ds (b + 1) (shifted-in x d) (drop 1 (drop 1 fs)) (rw e h) in
+      let all = and-serves (one-rise b x d fs less) (and-serves (one-fall (b + 1) (shifted-in x d) (drop 1 fs)) rest) in
+      record { is-seen = all .is-seen; is-left = all .is-left ∙ ap (λ (n : ℕ). at (P.Receive k) p n (all-shifted-in (shifted-in x d) ds) false s) e }
 
--- at the eighth rise the byte is taken for what it is
-module _ (fetch : ℕ → ℕ) (p : ℕ) (l : Bool) (s : ℕ) (done : List Action) (b : ℕ) (small : b < 256) where
-  taken : (k : Receive) → served fetch (target (P.Receive k) p 0 0 l s done) (eight-rises b) ≡ serve fetch (target (P.Receive k) p 7 (all-shifted-in 0 (seven-bits b)) l s done) (Rise (sent-bit b 7))
-  unfolding served
-  taken k =
-      served-append fetch (clocked (seven-bits b)) (Rise (sent-bit b 7) ∷ []) (target (P.Receive k) p 0 0 l s done)
-      ∙ ap (λ (v : Target). serve fetch v (Rise (sent-bit b 7))) (bits-received fetch k p l s done (seven-bits b) 0 0 (leb→le 7 7 tt))
+-- ---- the eighth rise, and the ninth clock
 
-  -- a register byte sets the pointer, modulo 128
-  pub register-byte : served fetch (target (P.Receive R.Control) p 0 0 l s done) (eight-rises b) ≡ target (P.Acknowledge F.Data 0) (b % 128) 0 0 false s done
-  unfolding serve act step is-condition is-start is-rise is-fall data-at conditioned acknowledging within-byte byte-step bit-taken pointer-after at-ninth ninth-step acknowledge-step followed answer-step answer answered completes completed received addressed
-  register-byte = taken R.Control ∙ rw (bits-make-the-byte b small)
+module _ (p s : ℕ) (b : ℕ) (small : b < 256) (level : Bool) (fs : Shown) where
+  abbrev so-far : ℕ
+  so-far = all-shifted-in 0 (seven-bits b)
 
-  -- a value byte is written at the pointer
-  pub value-byte : served fetch (target (P.Receive R.Data) p 0 0 l s done) (eight-rises b)
-      ≡ target (P.Acknowledge F.Control 0) p 0 0 false s (done ++ (A.Write p b ∷ []))
-  unfolding serve act step is-condition is-start is-rise is-fall data-at conditioned acknowledging within-byte byte-step bit-taken pointer-after at-ninth ninth-step acknowledge-step followed answer-step answer answered completes completed received addressed
-  value-byte =
-      taken R.Data ∙ ap (λ (x : ℕ). target (P.Acknowledge F.Control 0) p 0 0 false s (done ++ (A.Write p x ∷ []))) (bits-make-the-byte b small)
+  -- a register byte sets the pointer, modulo 128, and is acknowledged
+  register-last : (gs : Shown)
+      → Serves (at (P.Receive R.Control) p 7 so-far false s) (Rise (sent-bit b 7) ∷ ninth-clock level) gs (free ∷ acknowledge) (at (P.Receive R.Data) (b % 128) 0 0 false s)
+  unfolding seen left serve act step is-condition is-start is-rise is-fall data-at within-byte byte-step at-ninth ninth-step acknowledge-step followed completes completed received
+  register-last gs = record { is-seen = refl; is-left = rw (bits-make-the-byte b small) }
 
-  -- an address byte other than 70 and 71 hex is not answered
-  pub other-address : (b ≡ 0x70 → ⊥) → (b ≡ 0x71 → ⊥) → served fetch (target (P.Receive R.Address) p 0 0 l s done) (eight-rises b) ≡ target P.Idle p 0 0 false s done
-  unfolding serve act step is-condition is-start is-rise is-fall data-at conditioned acknowledging within-byte byte-step bit-taken pointer-after at-ninth ninth-step acknowledge-step followed answer-step answer answered completes completed received addressed
-  other-address m n = taken R.Address ∙ rw (bits-make-the-byte b small, ne-eqb b 0x70 m, ne-eqb b 0x71 n)
+  -- a value byte is written at the pointer, and is acknowledged
+  value-last : (gs : Shown)
+      → Serves (at (P.Receive R.Data) p 7 so-far false s) (Rise (sent-bit b 7) ∷ ninth-clock level) gs (free-and (A.Write p b) ∷ acknowledge) (at (P.Receive R.Control) p 0 0 false s)
+  unfolding seen left serve act step is-condition is-start is-rise is-fall data-at within-byte byte-step at-ninth ninth-step acknowledge-step followed completes completed received
+  value-last gs = record { is-seen = rw (bits-make-the-byte b small); is-left = refl }
 
--- START and Fall alone
-started : (fetch : ℕ → ℕ) (v : Target) → serve fetch (serve fetch v Start) Fall ≡ target (P.Receive R.Address) (v .state .pointer) 0 0 false 0xff (v .done)
-unfolding serve act step is-condition is-start is-rise is-fall data-at conditioned acknowledging within-byte byte-step bit-taken pointer-after at-ninth ninth-step acknowledge-step followed answer-step answer answered completes completed received addressed
-started fetch v = refl
+  seven : (k : Receive) → Serves (at (P.Receive k) p 0 0 false s) (clocked (seven-bits b)) fs (frees (seven-bits b)) (at (P.Receive k) p 7 so-far false s)
+  seven k = bits-received k p s (seven-bits b) 0 0 fs (leb→le 7 7 tt)
 
--- ---- silence until START
+  pub register-byte : Serves (at (P.Receive R.Control) p 0 0 false s) (byte-frame b level) fs register-answer (at (P.Receive R.Data) (b % 128) 0 0 false s)
+  unfolding clocked frees
+  register-byte = and-serves (seven R.Control) (register-last (drop 14 fs))
 
--- after START and any other address the sensor waits for START
-pub not-addressed : (fetch : ℕ → ℕ) (v : Target) (b : ℕ) → b < 256 → (b ≡ 0x70 → ⊥) → (b ≡ 0x71 → ⊥)
-    → served fetch v (address-frame b) ≡ target P.Idle (v .state .pointer) 0 0 false 0xff (v .done)
-unfolding served
-not-addressed fetch v b h m n =
-    ap (λ (w : Target). served fetch w (eight-rises b)) (started fetch v) ∙ other-address fetch (v .state .pointer) false 0xff (v .done) b h m n
+  pub value-byte : Serves (at (P.Receive R.Data) p 0 0 false s) (byte-frame b level) fs (value-answer p b) (at (P.Receive R.Control) p 0 0 false s)
+  unfolding clocked frees
+  value-byte = and-serves (seven R.Data) (value-last (drop 14 fs))
 
--- START is among these events
-unfoldable pub starts : List Edge → Bool
-starts [] = false
-starts (e ∷ es) = is-start e || starts es
+-- ---- write transfers
 
--- the byte being sent, which STOP drops
-kept : Edge → ℕ → ℕ
-kept Still s = s
-kept Start s = s
-kept Stop s = 0xff
-kept (Rise d) s = s
-kept Fall s = s
+pub pairs-served : (ps : List Pair) (p s : ℕ) (fs : Shown) → Bytes ps
+    → Serves (at (P.Receive R.Control) p 0 0 false s) (pairs ps) fs (pairs-answer ps) (at (P.Receive R.Control) (pairs-pointer ps p) 0 0 false s)
+unfolding pairs pairs-answer pairs-pointer seen left clocked
+pairs-served [] p s fs h = record { is-seen = refl; is-left = refl }
+pairs-served (q ∷ ps) p s fs h =
+    and-serves (register-byte p s (q .register) (h .0) (q .register-level) fs)
+    (and-serves (value-byte (q .register % 128) s (q .value) (h .1) (q .value-level) _)
+    (pairs-served ps (q .register % 128) s _ (h .2)))
 
-module _ (fetch : ℕ → ℕ) (p : ℕ) (done : List Action) where
-  abbrev waiting : ℕ → Target
-  waiting s = target P.Idle p 0 0 false s done
+-- after START and 70 hex the pin is held low from the eighth fall to the ninth, and a register byte follows
+pub write-address-served : (v : Target) (level : Bool) (fs : Shown)
+    → Serves v (address-frame 0x70 ++ ninth-clock level) fs (address-answer ++ acknowledge) (at (P.Receive R.Control) (v .state .pointer) 0 0 false 0xff)
+unfolding seen left clocked serve act step is-condition is-start is-rise is-fall data-at conditioned acknowledging within-byte byte-step at-ninth ninth-step acknowledge-step followed completes completed received addressed
+write-address-served v level fs = record { is-seen = refl; is-left = refl }
 
-  idle-step : (e : Edge) (s : ℕ) → is-start e ≡ false → serve fetch (waiting s) e ≡ waiting (kept e s)
-  unfolding kept serve act step is-condition is-start is-rise is-fall data-at conditioned acknowledging within-byte byte-step bit-taken pointer-after at-ninth ninth-step acknowledge-step followed answer-step answer answered completes completed received addressed
-  idle-step Still s h = refl
-  idle-step Start s h = let z : _≡_ {A = ℕ} 0 1 = cc in absurd (omega arith)
-  idle-step Stop s h = refl
-  idle-step (Rise d) s h = refl
-  idle-step Fall s h = refl
+-- START, 70 hex and any number of pairs, from any state: each byte is acknowledged, and each pair writes its value once, at the eighth rise of its value byte
+pub write-served : (v : Target) (level : Bool) (ps : List Pair) (fs : Shown) → Bytes ps
+    → Serves v (write-transfer level ps) fs (write-answer ps) (at (P.Receive R.Control) (pairs-pointer ps (v .state .pointer)) 0 0 false 0xff)
+write-served v level ps fs h = and-serves (write-address-served v level fs) (pairs-served ps (v .state .pointer) 0xff _ h)
+
+-- ---- read transfers
+
+-- after START and 71 hex the pin is held low from the eighth fall on; the ninth fall fetches the first byte
+pub read-address-served : (v : Target) (level : Bool) (fs : Shown)
+    → Serves v (read-address level) fs read-address-answer (at (P.Acknowledge F.Read 2) (v .state .pointer) 0 0 true 0xff)
+unfolding seen left clocked serve act step is-condition is-start is-rise is-fall data-at conditioned acknowledging within-byte byte-step at-ninth ninth-step acknowledge-step followed completes completed received addressed
+read-address-served v level fs = record { is-seen = refl; is-left = refl }
+
+-- a byte can be fetched at the next fall: after the address, or after an acknowledge of the master's
+pub data Fetches : Target → (pointer : ℕ) → Type 0 where
+  after-address : (p s : ℕ) → Fetches (at (P.Acknowledge F.Read 2) p 0 0 true s) p
+  after-byte : (p s : ℕ) → Fetches (at (P.MasterAcknowledge M.Acknowledge) p 0 0 false s) p
+
+-- the byte is the one that its register shows at that fall, and the next register follows
+pub byte-served : {v : Target} {p : ℕ} → Fetches v p → (o : Levels8) (level : Bool) (fs : Shown)
+    → Serves v (read-byte o level) fs (byte-answer p (now-shown fs p)) (at (P.MasterAcknowledge (answer level)) (next-register p) 0 0 false (now-shown fs p))
+unfolding seen left serve act step is-condition is-start is-rise is-fall data-at within-byte byte-step bit-taken pointer-after at-ninth ninth-step acknowledge-step followed answer-step answered completes
+byte-served (after-address p s) o level fs = record { is-seen = refl; is-left = refl }
+byte-served (after-byte p s) o level fs = record { is-seen = refl; is-left = refl }
+
+acknowledged-fetches : (p s : ℕ) → Fetches (at (P.MasterAcknowledge (answer false)) p 0 0 false s) p
+unfolding answer
+acknowledged-fetches p s = after-byte p s
+
+-- after bytes that were acknowledged the next one can be fetched
+pub record Read (v : Target) (es : List Edge) (fs : Shown) (a : List Seen) (p : ℕ) : Type 0 where
+  pub to : Target
+  pub serves : Serves v es fs a to
+  pub fetches : Fetches to p
+
+pub bytes-served : {v : Target} {p : ℕ} → Fetches v p → (os : List Levels8) (fs : Shown) → Read v (acknowledged os) fs (bytes-answer p os fs) (register-after p os)
+unfolding acknowledged bytes-answer register-after seen left
+bytes-served {v} {p} h [] fs = record { to = v; serves = record { is-seen = refl; is-left = refl }; fetches = h }
+bytes-served {v} {p} h (o ∷ os) fs =
+    let one = byte-served h o false fs in
+    let rest = bytes-served (acknowledged-fetches (next-register p) (now-shown fs p)) os (drop 18 fs) in
+    record { to = rest .to; serves = and-serves one (rest .serves); fetches = rest .fetches }
+
+drop-over : (n : ℕ) (fs : Shown) → drop (18 + n) fs ≡ drop n (drop 18 fs)
+drop-over n fs = sym (drop-drop n 18 fs)
+
+acknowledged-shown : (os : List Levels8) (fs : Shown) → drop (length (acknowledged os)) fs ≡ shown-after os fs
+unfolding acknowledged shown-after
+acknowledged-shown [] fs = refl
+acknowledged-shown (o ∷ os) fs =
+    let e : length (read-byte o false ++ acknowledged os) ≡ 18 + length (acknowledged os) = omega arith in
+    ap (λ (n : ℕ). drop n fs) e ∙ drop-over (length (acknowledged os)) fs ∙ acknowledged-shown os (drop 18 fs)
+
+-- a not-acknowledge frees the pin until START
+pub not-acknowledged : (p s : ℕ) (fs : Shown) → Serves (at (P.MasterAcknowledge (answer true)) p 0 0 false s) (Fall ∷ []) fs (free ∷ []) (at P.Idle p 0 0 false s)
+unfolding seen left serve act step is-condition is-rise is-fall within-byte at-ninth ninth-step answer-step answer answered completes
+not-acknowledged p s fs = record { is-seen = refl; is-left = refl }
+
+-- from the ninth rise of the address on: any number of bytes that are acknowledged, and a last one that is not
+pub reads-served : {v : Target} {p : ℕ} → Fetches v p → (os : List Levels8) (last : Levels8) (fs : Shown)
+    → Serves v (acknowledged os ++ (read-byte last true ++ (Fall ∷ []))) fs (read-answer p os fs)
+    (at P.Idle (next-register (register-after p os)) 0 0 false (now-shown (shown-after os fs) (register-after p os)))
+reads-served {v} {p} h os last fs =
+    let some = bytes-served h os fs in
+    let end = byte-served (some .fetches) last true (shown-after os fs) in
+    and-serves (some .serves)
+    (subst (λ (gs : Shown). Serves (some .to) (read-byte last true ++ (Fall ∷ [])) gs (byte-answer (register-after p os) (now-shown (shown-after os fs) (register-after p os)) ++ (free ∷ []))
+    (at P.Idle (next-register (register-after p os)) 0 0 false (now-shown (shown-after os fs) (register-after p os))))
+    (sym (acknowledged-shown os fs))
+    (and-serves end (not-acknowledged _ _ _)))
+
+-- START, 71 hex and bytes, from any state: the first is of the register that the pointer is at
+pub read-served : (v : Target) (level : Bool) (os : List Levels8) (last : Levels8) (fs : Shown)
+    → let p = v .state .pointer in let gs = drop 19 fs in
+    Serves v (read-transfer level os last) fs (read-address-answer ++ read-answer p os gs)
+    (at P.Idle (next-register (register-after p os)) 0 0 false (now-shown (shown-after os gs) (register-after p os)))
+unfolding clocked
+read-served v level os last fs = and-serves (read-address-served v level fs) (reads-served (after-address (v .state .pointer) 0xff) os last (drop 19 fs))
+
+-- ---- combined: a register byte, a repeated START, and bytes from that register on
+
+again-served : (p s : ℕ) (fs : Shown) → Serves (at (P.Receive R.Data) p 0 0 false s) again fs (free ∷ []) (at (P.Receive R.Data) p 1 (shifted-in 0 true) false s)
+unfolding seen left serve act step is-condition is-rise is-fall data-at within-byte byte-step
+again-served p s fs = record { is-seen = refl; is-left = refl }
+
+pub combined-served : (v : Target) (register : ℕ) (a b c : Bool) (os : List Levels8) (last : Levels8) (fs : Shown) → register < 256
+    → let p = register % 128 in let gs = drop 19 (drop 1 (drop 18 (drop 20 fs))) in
+    Serves v (combined register a b c os last) fs ((address-answer ++ acknowledge) ++ (register-answer ++ ((free ∷ []) ++ (read-address-answer ++ read-answer p os gs))))
+    (at P.Idle (next-register (register-after p os)) 0 0 false (now-shown (shown-after os gs) (register-after p os)))
+unfolding clocked
+combined-served v register a b c os last fs small =
+    and-serves (write-address-served v a fs)
+    (and-serves (register-byte (v .state .pointer) 0xff register small b (drop 20 fs))
+    (and-serves (again-served (register % 128) 0xff (drop 18 (drop 20 fs)))
+    (read-served (at (P.Receive R.Data) (register % 128) 1 (shifted-in 0 true) false 0xff) c os last (drop 1 (drop 18 (drop 20 fs))))))
+
+-- ---- broken bytes: fewer than eight rises, then STOP or START: no write
+
+module _ (k : Receive) (p s : ℕ) (ds : List Bool) (few : length ds ≤ 6) (fs : Shown) where
+  abbrev reached : Target
+  reached = at (P.Receive k) p (length ds) (all-shifted-in 0 ds) false s
+
+  bits : Serves (at (P.Receive k) p 0 0 false s) (clocked ds) fs (frees ds) (at (P.Receive k) p (0 + length ds) (all-shifted-in 0 ds) false s)
+  bits = bits-received k p s ds 0 0 fs (omega arith)
+
+  ended : (b x : ℕ) (gs : Shown) → Serves (at (P.Receive k) p b x false s) (Stop ∷ []) gs (free-and A.Drop ∷ []) (at P.Idle p 0 0 false 0xff)
+  unfolding seen left serve act step is-condition is-start conditioned
+  ended b x gs = record { is-seen = refl; is-left = refl }
+
+  anew : (b x : ℕ) (gs : Shown) → Serves (at (P.Receive k) p b x false s) (Start ∷ []) gs (free-and A.Drop ∷ []) (at (P.Receive R.Address) p 0 0 false 0xff)
+  unfolding seen left serve act step is-condition is-start conditioned
+  anew b x gs = record { is-seen = refl; is-left = refl }
+
+  broken-end : (b x : ℕ) (gs : Shown) → b < 7 → Serves (at (P.Receive k) p b x false s) stop gs (free ∷ free-and A.Drop ∷ []) (at P.Idle p 0 0 false 0xff)
+  broken-end b x gs h = and-serves (one-rise k p s b x false gs h) (ended (b + 1) (shifted-in x false) (drop 1 gs))
+
+  broken-anew : (b x : ℕ) (gs : Shown) → b < 7 → Serves (at (P.Receive k) p b x false s) (again ++ (Start ∷ [])) gs (free ∷ free-and A.Drop ∷ []) (at (P.Receive R.Address) p 0 0 false 0xff)
+  broken-anew b x gs h = and-serves (one-rise k p s b x true gs h) (anew (b + 1) (shifted-in x true) (drop 1 gs))
+
+  pub broken-by-stop : Serves (at (P.Receive k) p 0 0 false s) (broken ds) fs (broken-answer ds) (at P.Idle p 0 0 false 0xff)
+  broken-by-stop = and-serves bits (broken-end (0 + length ds) (all-shifted-in 0 ds) _ (omega arith))
+
+  pub broken-by-start : Serves (at (P.Receive k) p 0 0 false s) (clocked ds ++ (again ++ (Start ∷ []))) fs (broken-answer ds) (at (P.Receive R.Address) p 0 0 false 0xff)
+  broken-by-start = and-serves bits (broken-anew (0 + length ds) (all-shifted-in 0 ds) _ (omega arith))
+
+module _ (v : Target) (level : Bool) (ps : List Pair) (small : Bytes ps) (ds : List Bool) (few : length ds ≤ 6) (fs : Shown) where
+  -- after n pairs a register byte is broken off: no more is written
+  pub broken-register-served : Serves v (write-transfer level ps ++ broken ds) fs (write-answer ps ++ broken-answer ds) (at P.Idle (pairs-pointer ps (v .state .pointer)) 0 0 false 0xff)
+  broken-register-served = and-serves (write-served v level ps fs small) (broken-by-stop R.Control _ 0xff ds few _)
+
+  -- after n pairs and a register byte its value byte is broken off: no more is written
+  pub broken-value-served : (register : ℕ) (b : Bool) → register < 256
+      → Serves v (write-transfer level ps ++ (byte-frame register b ++ broken ds)) fs (write-answer ps ++ (register-answer ++ broken-answer ds)) (at P.Idle (register % 128) 0 0 false 0xff)
+  broken-value-served register b r =
+      and-serves (write-served v level ps fs small)
+      (and-serves (register-byte _ 0xff register r b _) (broken-by-stop R.Data _ 0xff ds few _))
+
+-- ---- another address: silence until START
+
+begun : (v : Target) (fs : Shown) → Serves v (Start ∷ Fall ∷ []) fs (free-and A.Drop ∷ free ∷ []) (at (P.Receive R.Address) (v .state .pointer) 0 0 false 0xff)
+unfolding seen left serve act step is-condition is-start is-rise is-fall conditioned within-byte at-ninth completes acknowledging
+begun v fs = record { is-seen = refl; is-left = refl }
+
+module _ (b : ℕ) (small : b < 256) (not-70 : b ≡ 0x70 → ⊥) (not-71 : b ≡ 0x71 → ⊥) where
+  other-last : (p : ℕ) (fs : Shown) → Serves (at (P.Receive R.Address) p 7 (all-shifted-in 0 (seven-bits b)) false 0xff) (Rise (sent-bit b 7) ∷ []) fs (free ∷ []) (at P.Idle p 0 0 false 0xff)
+  unfolding seen left serve act step is-condition is-start is-rise is-fall data-at within-byte at-ninth completes completed received addressed
+  other-last p fs =
+      record {
+        is-seen = rw (bits-make-the-byte b small, ne-eqb b 0x70 not-70, ne-eqb b 0x71 not-71);
+        is-left = rw (bits-make-the-byte b small, ne-eqb b 0x70 not-70, ne-eqb b 0x71 not-71);
+      }
+
+  pub not-addressed : (v : Target) (fs : Shown) → Serves v (address-frame b) fs address-answer (at P.Idle (v .state .pointer) 0 0 false 0xff)
+  unfolding clocked frees
+  not-addressed v fs =
+      and-serves (begun v fs)
+      (and-serves (bits-received R.Address (v .state .pointer) 0xff (seven-bits b) 0 0 (drop 2 fs) (leb→le 7 7 tt)) (other-last (v .state .pointer) (drop 14 (drop 2 fs))))
+
+module _ (p : ℕ) where
+  -- the byte being sent, which STOP drops
+  kept : Edge → ℕ → ℕ
+  kept Still s = s
+  kept Start s = s
+  kept Stop s = 0xff
+  kept (Rise d) s = s
+  kept Fall s = s
+
+  idle-step : (f : ℕ → ℕ) (e : Edge) (s : ℕ) → is-start e ≡ false → (seen-at f (at P.Idle p 0 0 false s) e ≡ silent e) × (serve f (at P.Idle p 0 0 false s) e ≡ at P.Idle p 0 0 false (kept e s))
+  unfolding kept silent serve act step is-condition is-start is-rise is-fall conditioned acknowledging within-byte at-ninth completes
+  idle-step f Still s h = (refl, refl)
+  idle-step f Start s h = let z : _≡_ {A = ℕ} 0 1 = cc in absurd (omega arith)
+  idle-step f Stop s h = (refl, refl)
+  idle-step f (Rise d) s h = (refl, refl)
+  idle-step f Fall s h = (refl, refl)
 
   -- a sensor that waits for START holds the pin at no event before one, goes on waiting, and does nothing
-  pub silent-until-start : (es : List Edge) (s : ℕ) → starts es ≡ false
-      → (lows fetch (target P.Idle p 0 0 false s done) es ≡ replicate (length es) false)
-      × (served fetch (target P.Idle p 0 0 false s done) es .state ≡ target P.Idle p 0 0 false s done .state)
-      × (served fetch (target P.Idle p 0 0 false s done) es .done ≡ done)
-  unfolding lows served starts
-  silent-until-start [] s h = (refl, refl, refl)
-  silent-until-start (e ∷ es) s h =
-      let i = idle-step e s (or-left (is-start e) (starts es) h) in
-      let r = silent-until-start es (kept e s) (or-right (is-start e) (starts es) h) in
-      (rw i (ap (λ (t : List Bool). false ∷ t) (r .0)), ap (λ (v : Target). served fetch v es .state) i ∙ r .1, ap (λ (v : Target). served fetch v es .done) i ∙ r .2)
+  pub silent-until-start : (es : List Edge) (s : ℕ) (fs : Shown) → starts es ≡ false
+      → (seen (at P.Idle p 0 0 false s) es fs ≡ silence es) × (left (at P.Idle p 0 0 false s) es fs .state ≡ at P.Idle p 0 0 false s .state)
+  unfolding seen left starts silence
+  silent-until-start [] s fs h = (refl, refl)
+  silent-until-start (e ∷ es) s fs h =
+      let f = now-shown fs in
+      let i = idle-step f e s (or-left (is-start e) (starts es) h) in
+      let r = silent-until-start es (kept e s) (drop 1 fs) (or-right (is-start e) (starts es) h) in (
+        ap (λ (a : Seen). a ∷ seen (serve f (at P.Idle p 0 0 false s) e) es (drop 1 fs)) (i .0)
+            ∙ ap (λ (v : Target). silent e ∷ seen v es (drop 1 fs)) (i .1)
+            ∙ ap (λ (l : List Seen). silent e ∷ l) (r .0),
+        ap (λ (v : Target). left v es (drop 1 fs) .state) (i .1) ∙ r .1,
+      )
 
--- ---- writes: a register byte and a value byte cause exactly one write, and after its acknowledge the next pair begins
+-- START and another address, and whatever comes before the next START: the pin is free, and nothing is done
+pub other-address-silent : (b : ℕ) → b < 256 → (b ≡ 0x70 → ⊥) → (b ≡ 0x71 → ⊥) → (v : Target) (es : List Edge) (fs : Shown) → starts es ≡ false
+    → seen v (address-frame b ++ es) fs ≡ address-answer ++ silence es
+other-address-silent b small m n v es fs h =
+    let a = not-addressed b small m n v fs in
+    let gs = drop (length (address-frame b)) fs in
+    seen-append (address-frame b) es v fs
+    ∙ ap (λ (l : List Seen). l ++ seen (left v (address-frame b) fs) es gs) (a .is-seen)
+    ∙ ap (λ (u : Target). address-answer ++ seen u es gs) (a .is-left)
+    ∙ ap (λ (l : List Seen). address-answer ++ l) (silent-until-start (v .state .pointer) es 0xff gs h .0)
 
-acknowledged-data : (fetch : ℕ → ℕ) (p s : ℕ) (done : List Action) (level : Bool)
-    → served fetch (target (P.Acknowledge F.Data 0) p 0 0 false s done) (ninth-clock level) ≡ target (P.Receive R.Data) p 0 0 false s done
-unfolding served serve act step is-condition is-start is-rise is-fall data-at conditioned acknowledging within-byte byte-step bit-taken pointer-after at-ninth ninth-step acknowledge-step followed answer-step answer answered completes completed received addressed
-acknowledged-data fetch p s done level = refl
+-- ---- bus clear (UM10204 3.1.16): nine clocks free the data line of a sensor that is sending
 
-acknowledged-control : (fetch : ℕ → ℕ) (p s : ℕ) (done : List Action) (level : Bool)
-    → served fetch (target (P.Acknowledge F.Control 0) p 0 0 false s done) (ninth-clock level) ≡ target (P.Receive R.Control) p 0 0 false s done
-unfolding served serve act step is-condition is-start is-rise is-fall data-at conditioned acknowledging within-byte byte-step bit-taken pointer-after at-ninth ninth-step acknowledge-step followed answer-step answer answered completes completed received addressed
-acknowledged-control fetch p s done level = refl
+module _ (p b x : ℕ) (l : Bool) (s : ℕ) (fs : Shown) where
+  abbrev Cleared : ℕ → Type 0
+  Cleared n = (left (at (P.Read n) p b x l s) nine-clocks fs .state .phase ≡ P.Idle) × (left (at (P.Read n) p b x l s) nine-clocks fs .state .low ≡ false)
 
-module _ (fetch : ℕ → ℕ) (r x : ℕ) (r-small : r < 256) (x-small : x < 256) (la lb : Bool) where
-  -- up to the value byte nothing is done
-  register-taken : (p : ℕ) (l : Bool) (s : ℕ) (done : List Action)
-      → served fetch (target (P.Receive R.Control) p 0 0 l s done) (byte-frame r la) ≡ target (P.Receive R.Data) (r % 128) 0 0 false s done
-  register-taken p l s done =
-      served-append fetch (eight-rises r) (ninth-clock la) (target (P.Receive R.Control) p 0 0 l s done)
-      ∙ ap (λ (v : Target). served fetch v (ninth-clock la)) (register-byte fetch p l s done r r-small)
-      ∙ acknowledged-data fetch (r % 128) s done la
+  clear-sending : (n : ℕ) → n ≤ 8 → Cleared n
+  unfolding left clocked serve act step is-condition is-start is-rise is-fall data-at within-byte byte-step bit-taken pointer-after at-ninth ninth-step answer-step answer answered completes
+  clear-sending zero h = (refl, refl)
+  clear-sending (suc zero) h = (refl, refl)
+  clear-sending (suc (suc zero)) h = (refl, refl)
+  clear-sending (suc (suc (suc zero))) h = (refl, refl)
+  clear-sending (suc (suc (suc (suc zero)))) h = (refl, refl)
+  clear-sending (suc (suc (suc (suc (suc zero))))) h = (refl, refl)
+  clear-sending (suc (suc (suc (suc (suc (suc zero)))))) h = (refl, refl)
+  clear-sending (suc (suc (suc (suc (suc (suc (suc zero))))))) h = (refl, refl)
+  clear-sending (suc (suc (suc (suc (suc (suc (suc (suc zero)))))))) h = (refl, refl)
+  clear-sending (suc (suc (suc (suc (suc (suc (suc (suc (suc n))))))))) h = absurd (omega arith)
 
-  value-taken : (p : ℕ) (l : Bool) (s : ℕ) (done : List Action)
-      → served fetch (target (P.Receive R.Data) p 0 0 l s done) (byte-frame x lb) ≡ target (P.Receive R.Control) p 0 0 false s (done ++ (A.Write p x ∷ []))
-  value-taken p l s done =
-      served-append fetch (eight-rises x) (ninth-clock lb) (target (P.Receive R.Data) p 0 0 l s done)
-      ∙ ap (λ (v : Target). served fetch v (ninth-clock lb)) (value-byte fetch p l s done x x-small)
-      ∙ acknowledged-control fetch p s (done ++ (A.Write p x ∷ [])) lb
+-- a sensor that is sending, at whichever bit, then waits for START and holds the line no more
+pub nine-clocks-clear : (v : Target) (n : ℕ) (fs : Shown) → v .state .phase ≡ P.Read n → n ≤ 8 → (left v nine-clocks fs .state .phase ≡ P.Idle) × (left v nine-clocks fs .state .low ≡ false)
+nine-clocks-clear v n fs e h =
+    let t = v .state in
+    subst (λ (f : Phase). let u = left (at f (t .pointer) (t .bits) (t .shift) (t .low) (v .sent)) nine-clocks fs in (u .state .phase ≡ P.Idle) × (u .state .low ≡ false))
+    (sym e) (clear-sending (t .pointer) (t .bits) (t .shift) (t .low) (v .sent) fs n h)
 
-  pub pair-writes-once : (p : ℕ) (l : Bool) (s : ℕ) (done : List Action)
-      → served fetch (target (P.Receive R.Control) p 0 0 l s done) (byte-frame r la ++ byte-frame x lb)
-      ≡ target (P.Receive R.Control) (r % 128) 0 0 false s (done ++ (A.Write (r % 128) x ∷ []))
-  pair-writes-once p l s done =
-      served-append fetch (byte-frame r la) (byte-frame x lb) (target (P.Receive R.Control) p 0 0 l s done)
-      ∙ ap (λ (v : Target). served fetch v (byte-frame x lb)) (register-taken p l s done)
-      ∙ value-taken (r % 128) false s done
+-- one that acknowledges frees the line at the first fall after a rise, unless it was addressed to read
+module _ (p b x : ℕ) (l : Bool) (s : ℕ) (f g : ℕ → ℕ) (n : ℕ) where
+  abbrev after-clock : Following → Target
+  after-clock k = serve g (serve f (at (P.Acknowledge k n) p b x l s) (Rise true)) Fall
 
--- fewer than eight bits of a value byte, then START or STOP: no write
-pub broken-value-writes-nothing : (fetch : ℕ → ℕ) (p : ℕ) (l : Bool) (s : ℕ) (done : List Action) (ds : List Bool) → length ds ≤ 7
-    → (served fetch (target (P.Receive R.Data) p 0 0 l s done) (clocked ds ++ (Start ∷ [])) .done ≡ done)
-    × (served fetch (target (P.Receive R.Data) p 0 0 l s done) (clocked ds ++ (Stop ∷ [])) .done ≡ done)
-unfolding served
-broken-value-writes-nothing fetch p l s done ds h =
-    let v = target (P.Receive R.Data) p 0 0 l s done in
-    let e = bits-received fetch R.Data p l s done ds 0 0 (rw zero-add h) in (
-      rw (served-append fetch (clocked ds) (Start ∷ []) v, e, start-drops fetch (target (P.Receive R.Data) p (0 + length ds) (all-shifted-in 0 ds) l s done)),
-      rw (served-append fetch (clocked ds) (Stop ∷ []) v, e, stop-drops fetch (target (P.Receive R.Data) p (0 + length ds) (all-shifted-in 0 ds) l s done)),
-    )
+  pub acknowledge-cleared : (k : Following) → reads-next k ≡ false → after-clock k .state .low ≡ false
+  unfolding serve act step is-condition is-rise is-fall within-byte at-ninth ninth-step acknowledge-step followed reads-next
+  acknowledge-cleared F.Control h = refl
+  acknowledge-cleared F.Data h = refl
+  acknowledge-cleared F.Read h = let z : _≡_ {A = ℕ} 0 1 = cc in absurd (omega arith)
+  acknowledge-cleared F.Idle h = refl
 
--- ---- reads: the eight bits appear most significant first, from the fall that fetches the byte
-
--- the events of a byte being read: the fall that fetches it, and eight clocks
-abbrev pub read-frame : Bool → Bool → Bool → Bool → Bool → Bool → Bool → Bool → List Edge
-read-frame a b c d e f g h = Fall ∷ clocked (a ∷ b ∷ c ∷ d ∷ e ∷ f ∷ g ∷ h ∷ [])
-
-module _ (fetch : ℕ → ℕ) (p : ℕ) (l : Bool) (s : ℕ) (done : List Action) (a b c d e f g h : Bool) where
-  -- the pin is low for a 0: bit n from the fall before its clock to the fall after it, and free after the eighth
-  abbrev low-for : ℕ → Bool
-  low-for n = not (sent-bit (fetch p) n)
-
-  abbrev pub bits-shown : List Bool
-  bits-shown =
-      low-for 0 ∷ low-for 0 ∷ low-for 1 ∷ low-for 1 ∷ low-for 2 ∷ low-for 2 ∷ low-for 3 ∷ low-for 3 ∷ low-for 4 ∷ low-for 4 ∷ low-for 5 ∷ low-for 5 ∷ low-for 6 ∷ low-for 6 ∷ low-for 7 ∷ low-for 7 ∷ false ∷ []
-
-  abbrev pub byte-read : Target
-  byte-read = target (P.MasterAcknowledge M.Unseen) ((p + 1) % 128) 0 0 false (fetch p) (done ++ (A.Launch p ∷ []) ++ (A.ReadBegan p ∷ []))
-
-  -- after the address
-  pub first-byte-shown : lows fetch (target (P.Acknowledge F.Read 2) p 0 0 l s done) (read-frame a b c d e f g h) ≡ bits-shown
-  unfolding lows clocked serve act step is-condition is-start is-rise is-fall data-at conditioned acknowledging within-byte byte-step bit-taken pointer-after at-ninth ninth-step acknowledge-step followed answer-step answer answered completes completed received addressed
-  first-byte-shown = refl
-
-  pub first-byte : served fetch (target (P.Acknowledge F.Read 2) p 0 0 l s done) (read-frame a b c d e f g h) ≡ byte-read
-  unfolding served clocked serve act step is-condition is-start is-rise is-fall data-at conditioned acknowledging within-byte byte-step bit-taken pointer-after at-ninth ninth-step acknowledge-step followed answer-step answer answered completes completed received addressed
-  first-byte = refl
-
-  -- after an acknowledge of the master's
-  pub next-byte-shown : lows fetch (target (P.MasterAcknowledge M.Acknowledge) p 0 0 l s done) (read-frame a b c d e f g h) ≡ bits-shown
-  unfolding lows clocked serve act step is-condition is-start is-rise is-fall data-at conditioned acknowledging within-byte byte-step bit-taken pointer-after at-ninth ninth-step acknowledge-step followed answer-step answer answered completes completed received addressed
-  next-byte-shown = refl
-
-  pub next-byte : served fetch (target (P.MasterAcknowledge M.Acknowledge) p 0 0 l s done) (read-frame a b c d e f g h) ≡ byte-read
-  unfolding served clocked serve act step is-condition is-start is-rise is-fall data-at conditioned acknowledging within-byte byte-step bit-taken pointer-after at-ninth ninth-step acknowledge-step followed answer-step answer answered completes completed received addressed
-  next-byte = refl
-
-module _ (fetch : ℕ → ℕ) (p s : ℕ) (done : List Action) where
-  -- an acknowledge goes on with the next register: the ninth rise, before the fall of `next-byte`
-  pub acknowledge-goes-on : served fetch (target (P.MasterAcknowledge M.Unseen) p 0 0 false s done) (Rise false ∷ []) ≡ target (P.MasterAcknowledge M.Acknowledge) p 0 0 false s done
-  unfolding served serve act step is-condition is-start is-rise is-fall data-at conditioned acknowledging within-byte byte-step bit-taken pointer-after at-ninth ninth-step acknowledge-step followed answer-step answer answered completes completed received addressed
-  acknowledge-goes-on = refl
-
-  -- a not-acknowledge frees the pin until START (with `silent-until-start`)
-  pub not-acknowledge-frees : served fetch (target (P.MasterAcknowledge M.Unseen) p 0 0 false s done) (Rise true ∷ Fall ∷ []) ≡ target P.Idle p 0 0 false s done
-  unfolding served serve act step is-condition is-start is-rise is-fall data-at conditioned acknowledging within-byte byte-step bit-taken pointer-after at-ninth ninth-step acknowledge-step followed answer-step answer answered completes completed received addressed
-  not-acknowledge-frees = refl
+-- then it has sent a byte after nine clocks, and frees the line for the master's answer
+pub read-acknowledge-cleared : (n p b x : ℕ) (l : Bool) (s : ℕ) (fs : Shown) → left (at (P.Acknowledge F.Read n) p b x l s) nine-clocks fs .state .low ≡ false
+unfolding left clocked serve act step is-condition is-start is-rise is-fall data-at within-byte byte-step bit-taken pointer-after at-ninth ninth-step acknowledge-step followed answer-step completes
+read-acknowledge-cleared n p b x l s fs = refl

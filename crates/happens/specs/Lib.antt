@@ -1,0 +1,3 @@
+pub mod Courses
+pub mod Happens
+pub mod Theorems

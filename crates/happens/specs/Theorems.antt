@@ -1,0 +1,14 @@
+pub mod Going
+pub mod Moments
+pub mod Accepting
+pub mod Holding
+pub mod Writes
+pub mod Waiting
+pub mod Cut
+pub mod Starting
+pub mod Ending
+pub mod SpiBits
+pub mod I2cBits
+pub mod Spi
+pub mod I2c
+pub mod Example

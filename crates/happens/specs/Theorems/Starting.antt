@@ -1,0 +1,74 @@
+-- The sensor of an accepted start.
+use Prim.Native.Nat.{ℕ, _^_, _<_, _≤_}
+use native.Mathlib.Omega.{arith}
+use mathlib.Core.Path.{_≡_, refl}
+use mathlib.Core.Bool.{Bool, true, false, cond, not}
+use mathlib.Core.List.{List}
+use borrow.Author.Tests.{leb-false, eqb-true, not-false}
+use lib.Dec.{eqb, lit≤}
+use lib.ListN.{length}
+use lib.Seq.{length-paste}
+use Rattle.time.specs.declared.Time.{Time}
+use Rattle.calls.specs.Table as T
+use Rattle.sensor.specs.Image.{reset-registers, from-nonvolatile}
+use Rattle.bma150.specs.Called.{start-number, after-start}
+use Rattle.runs.specs.Lists.{Start, started}
+use Rattle.happens.specs.Happens.{Wanted}
+use Rattle.happens.specs.Theorems.Holding.{host}
+use Rattle.happens.specs.Theorems.Writes.{Awake}
+
+-- ---- what acceptance says of the start
+
+-- the first of two refusals does not hold, nor the second
+neither : (a b : Bool) → _≡_ {A = ℕ} (cond a 1 (cond b 3 0)) 0 → (a ≡ false) × (b ≡ false)
+neither true b e = absurd (omega (arith, e))
+neither false true e = absurd (omega (arith, e))
+neither false false e = (refl, refl)
+
+module _ (t : Time) (image : List ℕ) (e : start-number t image ≡ 0) where
+  unrefused : (not (eqb (length image) 19) ≡ false) × (T.late t ≡ false)
+  unfolding T.start-refusal T.first-found T.wrong-length T.too-late
+  unrefused = neither (not (eqb (length image) 19)) (T.late t) e
+
+  start-in-time : T.late t ≡ false
+  start-in-time = unrefused .1
+
+  nineteen : length image ≡ 19
+  nineteen = eqb-true (length image) 19 (not-false (eqb (length image) 19) (unrefused .0))
+
+  start-is : after-start t image ≡ host t (from-nonvolatile t image)
+  unfolding after-start T.unless-refused
+  start-is = rw e
+
+  start-awake : Awake t image false (from-nonvolatile t image)
+  start-awake = record {
+    on = refl;
+    waits = refl;
+    awake = refl;
+    cells = refl;
+    sized = length-paste reset-registers 0x0b image 19 (lit≤ tt) (omega (arith, nineteen));
+    frame = refl;
+  }
+
+-- ---- the start of a wanted write
+module _ {b : Start} {a x : ℕ} {at : Time} (w : Wanted b a x at) where
+  -- its time is below the limit
+  pub in-time : T.late (b .time) ≡ false
+  in-time = start-in-time (b .time) (b .image) (w .start-accepted)
+
+  -- its whole seconds
+  pub few-seconds : b .time .0 < 2 ^ 32
+  unfolding T.late
+  few-seconds = leb-false (2 ^ 32) (b .time .0) in-time
+
+  -- its fraction of a second
+  pub a-fraction : b .time .1 < 2 ^ 64
+  a-fraction = w .start-declared .0 .1
+
+  -- its sensor
+  pub started-is : started b ≡ host (b .time) (from-nonvolatile (b .time) (b .image))
+  started-is = start-is (b .time) (b .image) (w .start-accepted)
+
+  -- which is awake
+  pub started-awake : Awake (b .time) (b .image) false (from-nonvolatile (b .time) (b .image))
+  started-awake = start-awake (b .time) (b .image) (w .start-accepted)
