@@ -66,7 +66,7 @@ same-target p = ap (λ (k : Parts). target (k .i2c) (ones-for (k .frame .tx))) (
 
 -- ---- it listens, is not quiet, and holds the pin low where its engine does
 
-is-never : (d : Deadline) → d ≡ Never → is-set d ≡ false
+pub is-never : (d : Deadline) → d ≡ Never → is-set d ≡ false
 unfolding is-set
 is-never d e = rw e
 

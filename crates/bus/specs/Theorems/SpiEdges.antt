@@ -14,7 +14,6 @@ use Rattle.spi.specs.declared.types.Shift.the-variants as H
 use Rattle.spi.specs.Frame as F
 use Rattle.spi.specs.Lines.{output}
 use Rattle.deadlines.specs.declared.Deadline.{Deadline}
-use Rattle.deadlines.specs.declared.Deadline.the-variants.{Never}
 use Rattle.deadlines.specs.Deadlines.{is-set}
 use Rattle.sensor.specs.declared.types.Supply.{Supply}
 use Rattle.sensor.specs.declared.types.View.{View}
@@ -26,7 +25,7 @@ use Rattle.serial.specs.SpiEdges as E
 use Rattle.effects.specs.Theorems.Keeps as K
 use Rattle.effects.specs.Theorems.Driver as D
 use Rattle.bus.specs.Spi.{Chosen, noted, sends}
-use Rattle.bus.specs.Theorems.Parts.{Parts, parts, Same, itself, of}
+use Rattle.bus.specs.Theorems.Parts.{Parts, parts, Same, itself, of, is-never}
 use Rattle.bus.specs.Theorems.Fading.{driving, Faded}
 
 -- ---- effects that leave the frame but for its driver
@@ -47,17 +46,13 @@ chosen p h =
       selected = ap (λ (k : Parts). k .frame .selected) (p .same) ∙ h .selected;
     }
 
-never-set : (d : Deadline) → d ≡ Never → is-set d ≡ false
-unfolding is-set
-never-set d e = rw e
-
 module _ {s : Sensor} (h : Chosen s) where
   pub listens : E.spi-listens s ≡ true
   unfolding E.spi-listens
-  listens = rw (h .selected, never-set (s .deadlines .«serial_ready») (h .ready), never-set (s .deadlines .quiet) (h .loud))
+  listens = rw (h .selected, is-never (s .deadlines .«serial_ready») (h .ready), is-never (s .deadlines .quiet) (h .loud))
 
   pub falls-heard : not (serial-not-ready s) && not (is-off s) ≡ true
-  falls-heard = rw (never-set (s .deadlines .«serial_ready») (h .ready), h .on)
+  falls-heard = rw (is-never (s .deadlines .«serial_ready») (h .ready), h .on)
 
 -- ---- the parts beside the frame
 

@@ -10,8 +10,6 @@ use Rattle.spi.specs.declared.types.Write.the-variants as W
 use Rattle.spi.specs.declared.types.Clocked.the-variants as Clocked
 use Rattle.spi.specs.Frame as F
 use Rattle.spi.specs.Lines.{past-end}
-use Rattle.deadlines.specs.declared.Deadline.{Deadline}
-use Rattle.deadlines.specs.declared.Deadline.the-variants.{Never}
 use Rattle.deadlines.specs.Deadlines.{is-set}
 use Rattle.calls.specs.declared.types.Timed.{Timed}
 use Rattle.calls.specs.declared.types.Timed.the-variants as Timed
@@ -30,7 +28,7 @@ use Rattle.runs.specs.Does.{at-rise, spi-write}
 use Rattle.runs.specs.Lists.{accepts, step}
 use Rattle.effects.specs.Theorems.Keeps as K
 use Rattle.bus.specs.Spi.{Chosen, noted, write-resets, timed-leaves, leaves-frame}
-use Rattle.bus.specs.Theorems.Parts.{absurd-bool, and-then, of}
+use Rattle.bus.specs.Theorems.Parts.{absurd-bool, and-then, of, is-never}
 use Rattle.bus.specs.Theorems.Reports.{reset-quiets}
 use Rattle.bus.specs.Theorems.Calls.{accepted-leaves}
 use Rattle.bus.specs.Theorems.SpiEdges.{chosen, Around, moved-rest, noted-clocking, first-frame}
@@ -38,12 +36,8 @@ use Rattle.bus.specs.Theorems.SpiRises.{clocks, write-alike, t, taken, q
 use Rattle.bus.specs.Theorems.SpiCalls.{rise-write, turn-write, resets-framed}
 
 -- a sensor that hears is not quiet
-never : (d : Deadline) → d ≡ Never → is-set d ≡ false
-unfolding is-set
-never d e = rw e
-
 loud : {s : Sensor} → Chosen s → is-quiet s ≡ false
-loud {s} h = never (s .deadlines .quiet) (h .loud)
+loud {s} h = is-never (s .deadlines .quiet) (h .loud)
 
 -- ---- supply
 

@@ -28,6 +28,7 @@ use Rattle.spi.specs.Theorems.Frames.{left-append, seen-append, receiving}
 use Rattle.bus.specs.Writes.{deed-writes, edge-writes}
 use Rattle.bus.specs.Theorems.Parts.{absurd-bool}
 use Rattle.bus.specs.Theorems.SpiFrames.{AllFloat}
+use Rattle.bus.specs.Theorems.SpiTransfers.{float-append}
 
 -- the levels of the data line at the rises
 unfoldable pub levels : List Event → List Bool
@@ -45,10 +46,6 @@ pub record Passes (f : Frame) (es : List Event) (ns : List Now) (g : Frame) : Ty
   pub nothing : Nothing (seen f es ns)
   pub is-left : left f es ns ≡ g
 
-both-float : (l m : List Seen) → AllFloat l → AllFloat m → AllFloat (l ++ m)
-both-float [] m p q = q
-both-float (a ∷ l) m p q = (p .0, both-float l m (p .1) q)
-
 deeds-append : (ds : List Deed) (ws vs : List Write) → deed-writes ds (ws ++ vs) ≡ deed-writes ds ws ++ vs
 unfolding deed-writes
 deeds-append [] ws vs = refl
@@ -65,14 +62,14 @@ both-none : (l m : List Seen) → edge-writes l ≡ [] → edge-writes m ≡ [] 
 both-none l m p q = writes-append l m ∙ ap (λ (ws : List Write). ws ++ edge-writes m) p ∙ q
 
 -- one after the other
-float-append : (l m : List Seen) → Nothing l → Nothing m → Nothing (l ++ m)
-float-append l m p q = record { float = both-float l m (p .float) (q .float); none = both-none l m (p .none) (q .none) }
+and-nothing : (l m : List Seen) → Nothing l → Nothing m → Nothing (l ++ m)
+and-nothing l m p q = record { float = float-append l m (p .float) (q .float); none = both-none l m (p .none) (q .none) }
 
 pub and-passes : {f g h : Frame} (es ds : List Event) (ns : List Now) → Passes f es ns g → Passes g ds (drop (length es) ns) h → Passes f (es ++ ds) ns h
 and-passes {f} {g} {h} es ds ns p q =
     record {
       nothing = subst Nothing (sym (seen-append es ds f ns ∙ ap (λ (k : Frame). seen f es ns ++ seen k ds (drop (length es) ns)) (p .is-left)))
-          (float-append (seen f es ns) (seen g ds (drop (length es) ns)) (p .nothing) (q .nothing));
+          (and-nothing (seen f es ns) (seen g ds (drop (length es) ns)) (p .nothing) (q .nothing));
       is-left = left-append es ds f ns ∙ ap (λ (k : Frame). left k ds (drop (length es) ns)) (p .is-left) ∙ q .is-left;
     }
 

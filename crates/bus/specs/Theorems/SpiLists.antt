@@ -8,9 +8,6 @@ use Rattle.spi.specs.declared.types.Drive.{Drive}
 use Rattle.spi.specs.declared.types.Drive.the-variants as D
 use Rattle.spi.specs.declared.types.Frame.{Frame}
 use Rattle.spi.specs.Lines.{Event, Now, serve, samples, deeds, Seen, left, seen}
-use Rattle.deadlines.specs.declared.Deadline.{Deadline}
-use Rattle.deadlines.specs.declared.Deadline.the-variants.{Never}
-use Rattle.deadlines.specs.Deadlines.{is-set}
 use Rattle.calls.specs.declared.types.Call.{Call}
 use Rattle.calls.specs.declared.types.Call.the-variants as Call
 use Rattle.sensor.specs.declared.types.Sensor.{Sensor}
@@ -21,15 +18,12 @@ use Rattle.bma150.specs.declared.host.Bma150.{Bma150}
 use Rattle.runs.specs.Lists.{accepts, step, after, accepted}
 use Rattle.bus.specs.I2c.{sampled}
 use Rattle.bus.specs.Spi.{Chosen, edge-of, and-some, edges, now-of, leaves-frame, sleeps-at, spi-pin, seen-edge, now-edge, seen-edges, nows}
+use Rattle.bus.specs.Theorems.Parts.{is-never}
 use Rattle.bus.specs.Theorems.Calls.{refused-leaves}
 use Rattle.bus.specs.Theorems.Fading.{floating-exact}
 use Rattle.bus.specs.Theorems.SpiServed.{predicted, call-left}
 
 -- ---- the pin
-
-is-never : (d : Deadline) → d ≡ Never → is-set d ≡ false
-unfolding is-set
-is-never d e = rw e
 
 module _ (s : Sensor) (h : Chosen s) where
   not-held : i2c-holds s ≡ false

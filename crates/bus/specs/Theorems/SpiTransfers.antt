@@ -5,6 +5,7 @@ use mathlib.Core.Path.{_≡_, refl, sym, ap, subst, _∙_}
 use mathlib.Core.Bool.{Bool, true, false, not}
 use mathlib.Core.List.{List, [], _∷_, _++_}
 use mathlib.Core.Option.{Option, none, some}
+use lib.Dec.{eqb}
 use lib.ListN.{length, drop, replicate, length-drop}
 use Rattle.laws.specs.Notation.{if_then_else_}
 use Rattle.time.specs.declared.Time.{Time}
@@ -19,15 +20,14 @@ use Rattle.spi.specs.Theorems.Frames.{Serves, write-served, writes-served}
 use Rattle.spi.specs.Theorems.Reads.{four-wire-read-served, three-wire-read-served}
 use Rattle.registers.specs.Map.{SPI4}
 use Rattle.registers.specs.Access.{withheld}
-use Rattle.calls.specs.Table as T
-use Rattle.calls.specs.Facts as TF
+use Rattle.calls.specs.Theorems.Left as Left
 use Rattle.calls.specs.declared.types.Call.{Call}
 use Rattle.calls.specs.declared.types.Call.the-variants as Call
 use Rattle.sensor.specs.declared.types.Sensor.{Sensor}
 use Rattle.sensor.specs.Record.{is-off, four-wire, gate}
 use Rattle.sensor.specs.RegisterReads.{peek, fetched}
 use Rattle.sensor.specs.Select.{selected-to, may-select, set-selected}
-use Rattle.samples.specs.Samples.{sync-local-until}
+use Rattle.samples.specs.Samples.{interaction-deadline, sync-local-until}
 use Rattle.serial.specs.SpiEdges as E
 use Rattle.bma150.specs.declared.host.Bma150.{Bma150}
 use Rattle.bma150.specs.Called.{leaves}
@@ -197,8 +197,7 @@ withheld-floats s r e = rw (e, sends)
 -- ---- select: it is never refused; a change drops the frame, select 1 while off is forgotten
 
 pub select-accepted : (s : Bma150) (on : Bool) → accepts s (Call.Select on) ≡ true
-unfolding T.refusal T.first-found T.wrong-length TF.facts T.too-late T.goes-back T.out-of-range T.before-due T.beside-due
-select-accepted s on = refl
+select-accepted s on = ap (λ (n : ℕ). eqb n 0) (Left.select-accepted (s .last) (interaction-deadline (s .sensor)) on)
 
 module _ (s : Bma150) where
   selects : (on : Bool) → step s (Call.Select on) .sensor ≡ set-selected (s .sensor) on
