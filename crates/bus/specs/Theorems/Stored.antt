@@ -3,7 +3,7 @@ use Prim.Native.Nat.{ℕ, _+_, _%_, _<_}
 use mathlib.Core.Path.{_≡_, refl, ap, _∙_}
 use mathlib.Core.Bool.{Bool, true, false}
 use mathlib.Core.List.{List, [], _++_}
-use lib.Dec.{eqb, leb→le}
+use lib.Dec.{leb→le}
 use Rattle.laws.specs.Notation.{if_then_else_}
 use Rattle.laws.specs.Bytes.{sent-bit, all-shifted-in, seven-bits, bits-make-the-byte}
 use Rattle.time.specs.declared.Time.{Time}
@@ -22,14 +22,12 @@ use Rattle.i2c.specs.Target.{Target, deed}
 use Rattle.i2c.specs.Answers.{frees, acknowledge, address-answer, register-answer}
 use Rattle.i2c.specs.Theorems.Frames.{and-serves, at, bits-received, write-address-served, register-byte}
 use Rattle.i2c.specs.Theorems.Uses.{uses}
-use Rattle.registers.specs.declared.access.Gate.{Gate}
-use Rattle.registers.specs.Access.{ignores, stored, begins}
-use Rattle.registers.specs.Map as Map
+use Rattle.registers.specs.Access.{stored, begins}
 use Rattle.spi.specs.declared.types.Write.{Write}
 use Rattle.spi.specs.declared.types.Write.the-variants as Write
 use Rattle.control.specs.declared.types.WriteKind.{WriteKind}
 use Rattle.control.specs.declared.types.WriteKind.the-variants as WriteKind
-use Rattle.control.specs.Kinds.{written-control, written-register, kind-of-write}
+use Rattle.control.specs.Theorems.Begins.{is-stored, stored-begins}
 use Rattle.calls.specs.declared.types.Timed.the-variants as Timed
 use Rattle.calls.specs.declared.types.Call.{Call}
 use Rattle.calls.specs.declared.types.Call.the-variants as Call
@@ -53,51 +51,6 @@ use Rattle.bus.specs.Theorems.Reports.{stepped-to}
 use Rattle.bus.specs.Theorems.Calls.{meets, meets-is}
 use Rattle.bus.specs.Theorems.Transfers.{report-through-call}
 use Rattle.bus.specs.Theorems.Asked.{asked-are-seen, call-asks}
-
--- ---- which writes begin a stored write
-
-unfoldable pub is-stored : WriteKind → Bool
-is-stored WriteKind.Ignored = false
-is-stored WriteKind.Stored = true
-is-stored WriteKind.Reset = false
-is-stored WriteKind.Control = false
-is-stored WriteKind.Measurement = false
-is-stored WriteKind.Operation = false
-is-stored WriteKind.Durations = false
-is-stored WriteKind.Plain = false
-
-control-not-stored : (value : ℕ) (t : Bool) → Map.soft-reset value ≡ t → is-stored (written-control value) ≡ false
-unfolding is-stored written-control
-control-not-stored value true e = rw e
-control-not-stored value false e = rw e
-
-register-not-stored : (address value : ℕ) (a b c d f : Bool) → eqb address Map.control ≡ a → eqb address Map.measurement ≡ b → eqb address Map.operation ≡ c → eqb address Map.LG-dur ≡ d → eqb address Map.HG-dur ≡ f
-    → is-stored (written-register address value) ≡ false
-unfolding is-stored written-register
-register-not-stored address value true b c d f p q r s t = rw p (control-not-stored value (Map.soft-reset value) refl)
-register-not-stored address value false true c d f p q r s t = rw (p, q)
-register-not-stored address value false false true d f p q r s t = rw (p, q, r)
-register-not-stored address value false false false true f p q r s t = rw (p, q, r, s)
-register-not-stored address value false false false false true p q r s t = rw (p, q, r, s, t)
-register-not-stored address value false false false false false p q r s t = rw (p, q, r, s, t)
-
-module _ (address value : ℕ) (g : Gate) where
-  by-tests : (running i w : Bool) → ignores address value g ≡ i → stored address ≡ w → is-stored (kind-of-write address value g running) ≡ begins address value g running
-  unfolding is-stored kind-of-write begins
-  by-tests true true true p q = rw (p, q)
-  by-tests true true false p q = rw (p, q)
-  by-tests true false true p q = rw (p, q)
-  by-tests true false false p q =
-      rw (p, q) (register-not-stored address value (eqb address Map.control) (eqb address Map.measurement) (eqb address Map.operation) (eqb address Map.LG-dur) (eqb address Map.HG-dur) refl refl refl refl refl)
-  by-tests false true true p q = rw (p, q)
-  by-tests false true false p q = rw (p, q)
-  by-tests false false true p q = rw (p, q)
-  by-tests false false false p q =
-      rw (p, q) (register-not-stored address value (eqb address Map.control) (eqb address Map.measurement) (eqb address Map.operation) (eqb address Map.LG-dur) (eqb address Map.HG-dur) refl refl refl refl refl)
-
-  -- exactly where 01's rule holds
-  pub stored-exactly : (running : Bool) → is-stored (kind-of-write address value g running) ≡ begins address value g running
-  stored-exactly running = by-tests running (ignores address value g) (stored address) refl refl
 
 -- ---- what a register write leaves of the running write
 
@@ -126,7 +79,7 @@ module _ (s : Sensor) (address value : ℕ) (now : Time) where
   pub write-begins : write-register s address value now .writing .operation ≡ (if begins address value (gate s) (is-writing s) then running address value now else s .writing .operation)
   write-begins =
       by-kind (write-kind s address value)
-      ∙ ap (λ (b : Bool). if b then running address value now else s .writing .operation) (stored-exactly address value (gate s) (is-writing s))
+      ∙ ap (λ (b : Bool). if b then running address value now else s .writing .operation) (stored-begins address value (gate s) (is-writing s))
 
 -- ---- through the calls
 
