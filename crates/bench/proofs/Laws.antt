@@ -7,14 +7,19 @@ use lib.Dec.{eqb}
 use lib.IntN.{ℤ}
 use borrow.Author.Tests.{ne-eqb}
 use Rattle.time.specs.declared.Time.{Time}
+use Rattle.i2c.specs.declared.types.Levels.{Levels}
+use Rattle.calls.specs.declared.types.Outcome.{Outcome}
+use Rattle.calls.specs.declared.types.Timed.the-variants as Timed
 use Rattle.calls.specs.declared.types.Call.the-variants as Call
 use Rattle.calls.specs.Facts.{facts}
+use Rattle.calls.specs.Table as R
 use Rattle.calls.specs.Table.{wrong-length, first-found, refusal, unless-refused}
 use Rattle.calls.specs.Theorems.Left.{temperature-accepted, select-accepted}
 use Rattle.samples.specs.Samples.{interaction-deadline}
 use Rattle.bma150.specs.declared.host.Bma150.{Bma150}
 use Rattle.commands.specs.declared.Command.the-variants as Command
-use Rattle.bma150.specs.Called.{Added, Called, adds, number, called, start-number, after-start}
+use Rattle.bma150.specs.Called.{Added, Called, timed-adds, adds, number, called, start-number, after-start}
+use Rattle.bma150.specs.Lent.{PinsLent}
 use Rattle.bench.specs.declared.types.Extra.{Extra}
 use Rattle.bench.specs.Line.{silent, started, commanded, no-extra, extra-adds}
 
@@ -58,3 +63,16 @@ module _ (s : Bma150) where
   select-called on =
       let e = select-accepted (s .last) (interaction-deadline (s .sensor)) on in
       called-is (sym e) refl (sym (ap (λ (n : ℕ). unless-refused n Added.nothing Added.nothing) e))
+
+-- what a lent pin call left and answered
+nothing-unless : (n : ℕ) → Added.nothing ≡ unless-refused n Added.nothing Added.nothing
+unfolding unless-refused
+nothing-unless n = go (eqb n 0)
+  where
+    go : (b : Bool) → Added.nothing ≡ cond b Added.nothing Added.nothing
+    go true = refl
+    go false = refl
+
+pub pins-called : (s : Bma150) (now : Time) (before after : Levels) (t : Bma150) (o : Outcome) → PinsLent s now before after t o → silent t (R.number o) ≡ called s (Call.At now (Timed.Pins before after))
+unfolding adds timed-adds
+pins-called s now before after t o e = called-is (e .answers) (e .leaves) (nothing-unless (number s (Call.At now (Timed.Pins before after))))

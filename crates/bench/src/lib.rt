@@ -1,6 +1,8 @@
 // The bench program's library: commands to calls, replies to lines, and the run over a block of input.
 ghost use mathlib.Core.Path.{_≡_};
+ghost use mathlib.Core.Bool.{not, cond, _&&_, _||_};
 ghost use Prim.Native.Nat.{_≤_};
+ghost use lib.Dec.{eqb};
 ghost use lib.ListN.{length, drop};
 ghost use lib.Seq.{sets};
 ghost use Rattle.bench.specs.Block as B;
@@ -50,6 +52,22 @@ fn after_block(sensor: Bma150, read: usize, written: usize, stop: bool) -> Ran
     }
 }
 
+// Whether the next due or pin command is lent, after a command with first byte b: for the trace every second one of a block is.
+fn turned(trace: bool, lent: bool, b: u8) -> bool
+    ensures { λ r. ⌜ r ≡ (trace && cond (eqb b 5 || eqb b 9) (not lent) lent) ⌝ }
+{
+    if trace {
+        if b == 5 {
+            return !lent;
+        }
+        if b == 9 {
+            return !lent;
+        }
+        return lent;
+    }
+    false
+}
+
 // The commands of a block of input, while a whole one is left and a line fits.
 pub fn run(input: &[u8], over: bool, trace: bool, out: &mut [u8; 65536], sensor: Bma150) -> Ran
     ensures { λ r. ⌜ r ≡ B.answer (length (now (input .entry))) (B.block trace over sensor (now (input .entry))) ⌝ }
@@ -60,13 +78,14 @@ pub fn run(input: &[u8], over: bool, trace: bool, out: &mut [u8; 65536], sensor:
     let mut at: usize = 0;
     let mut p: usize = 0;
     let mut n = sensor;
+    let mut lent = false;
     while is_whole(input, at, over) {
         if 65408 < p {
             return after_block(n, at, p, false);
         }
         let b = input[at];
         let c = decode(input, at);
-        let r = serve(n, c, input, at);
+        let r = serve(n, c, input, at, lent);
         p = write_line(out, p, trace, b, r);
         at += size(c);
         let m = r.sensor;
@@ -74,6 +93,7 @@ pub fn run(input: &[u8], over: bool, trace: bool, out: &mut [u8; 65536], sensor:
         if is_bad(c) {
             return after_block(n, at, p, true);
         }
+        lent = turned(trace, lent, b);
     }
     after_block(n, at, p, false)
 }

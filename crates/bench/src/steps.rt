@@ -6,17 +6,23 @@ ghost use Rattle.commands.specs.Decode as D;
 ghost use Rattle.commands.specs.declared.Command.the-variants as Command;
 ghost use Rattle.calls.specs.Table as R;
 ghost use Rattle.calls.specs.declared.types.Call.the-variants as Call;
+ghost use Rattle.calls.specs.declared.types.Timed.the-variants as Timed;
 ghost use Rattle.bma150.specs.Called as K;
+ghost use Rattle.bma150.specs.Lent.{DueLent};
 ghost use Rattle.bench.specs.Line as L;
 use crate::types::Extra;
 use crate::types::Reply;
 use bma150::host::Bma150;
+use bma150::lent::due_lent;
+use bma150::lent::pins_lent;
+use bma150::types::Answered;
 use calls::table::is_accepted;
 use calls::types::Call;
 use calls::types::Outcome;
 use calls::types::Refusal;
 use calls::types::Timed;
 use commands::Command;
+use i2c::types::Levels;
 use time::Time;
 use waits::types::Report;
 
@@ -87,6 +93,57 @@ fn timed(sensor: Bma150, when: Time, t: Timed) -> Reply
     }
 }
 
+// The reply of a lent due call that left this sensor and this answer.
+fn answered(sensor: Bma150, a: Answered) -> Reply
+    ensures { λ r. ⌜ ((s : Bma150) (t : Time) → DueLent s t sensor a → L.replied r ≡ K.called s (Call.At t Timed.Due)) ⌝ }
+{
+    let outcome = a.outcome;
+    let report = a.report;
+    Reply {
+        sensor: sensor,
+        outcome: outcome,
+        extra: unless_refused(outcome, Extra::Reported(report)),
+        image: [0; 19],
+    }
+}
+
+// The due call, over the sensor lent from here.
+fn due_by_lending(mut sensor: Bma150, when: Time) -> Reply
+    ensures { λ r. ⌜ L.replied r ≡ K.called sensor (Call.At when Timed.Due) ⌝ }
+{
+    let a = due_lent(&mut sensor, when);
+    answered(sensor, a)
+}
+
+// The pin call, over the sensor lent from here.
+fn pins_by_lending(mut sensor: Bma150, when: Time, before: Levels, after: Levels) -> Reply
+    ensures { λ r. ⌜ L.replied r ≡ K.called sensor (Call.At when (Timed.Pins before after)) ⌝ }
+{
+    let outcome = pins_lent(&mut sensor, when, before, after);
+    silent(sensor, outcome)
+}
+
+// A timed call: the due call and the pin call over a lent sensor, any other by value.
+fn timed_lent(sensor: Bma150, when: Time, t: Timed) -> Reply
+    ensures { λ r. ⌜ L.replied r ≡ K.called sensor (Call.At when t) ⌝ }
+{
+    match t {
+        Timed::Due => due_by_lending(sensor, when),
+        Timed::Pins(before, after) => pins_by_lending(sensor, when, before, after),
+        _ => timed(sensor, when, t),
+    }
+}
+
+// A timed call, by value or as above.
+fn timed_either(sensor: Bma150, when: Time, t: Timed, lent: bool) -> Reply
+    ensures { λ r. ⌜ L.replied r ≡ K.called sensor (Call.At when t) ⌝ }
+{
+    if lent {
+        return timed_lent(sensor, when, t);
+    }
+    timed(sensor, when, t)
+}
+
 fn view(sensor: Bma150, address: u8) -> Reply
     ensures { λ r. ⌜ L.replied r ≡ K.called sensor (Call.View address) ⌝ }
 {
@@ -116,11 +173,11 @@ fn stored_image(sensor: Bma150, when: Time, length: usize) -> Reply
     }
 }
 
-fn host(sensor: Bma150, c: Call) -> Reply
+fn host(sensor: Bma150, c: Call, lent: bool) -> Reply
     ensures { λ r. ⌜ L.replied r ≡ K.called sensor c ⌝ }
 {
     match c {
-        Call::At(t, what) => timed(sensor, t, what),
+        Call::At(t, what) => timed_either(sensor, t, what, lent),
         Call::Temperature(x) => silent(sensor.temperature(x), Outcome::Accepted),
         Call::Select(on) => silent(sensor.select(on), Outcome::Accepted),
         Call::View(address) => view(sensor, address),
@@ -128,14 +185,14 @@ fn host(sensor: Bma150, c: Call) -> Reply
     }
 }
 
-// The command that stands at `at` in the input; a bad one changes nothing.
-pub(crate) fn serve(sensor: Bma150, c: Command, input: &[u8], at: usize) -> Reply
+// The command that stands at `at` in the input; a bad one changes nothing. `lent`: a due or a pin call goes over a lent sensor.
+pub(crate) fn serve(sensor: Bma150, c: Command, input: &[u8], at: usize, lent: bool) -> Reply
     requires { ⌜ c ≡ D.decoded (drop at (now input)) ⌝ }
     ensures { λ r. ⌜ L.replied r ≡ L.commanded sensor c (D.image (drop at (now (input .entry)))) ⌝ }
 {
     match c {
         Command::Start(t) => start(sensor, t, input, at),
-        Command::Host(call) => host(sensor, call),
+        Command::Host(call) => host(sensor, call, lent),
         Command::Bad => silent(sensor, Outcome::Refused(Refusal::Command)),
     }
 }

@@ -29,7 +29,7 @@ use Rattle.samples.specs.Samples.{sync-local-until}
 use Rattle.serial.specs.I2cPins.{ones-for}
 use Rattle.serial.specs.Outputs.{i2c-holds}
 use Rattle.bma150.specs.declared.host.Bma150.{Bma150}
-use Rattle.runs.specs.Lists.{accepts, step, after, accepted}
+use Rattle.book.specs.Lists.{accepts, step, after, accepted}
 
 -- ---- a sensor that hears the bus: with supply, its pins not dead, SPI not selected and at rest, not quiet after a soft reset
 pub record Heard (s : Sensor) : Type 0 where

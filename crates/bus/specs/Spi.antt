@@ -26,8 +26,8 @@ use Rattle.samples.specs.Samples.{sync-local-until}
 use Rattle.serial.specs.SpiEdges.{first-bit-taken, fall-synced}
 use Rattle.serial.specs.Outputs as Outputs
 use Rattle.bma150.specs.declared.host.Bma150.{Bma150}
-use Rattle.runs.specs.Does.{at-rise, spi-write}
-use Rattle.runs.specs.Lists.{accepts, step}
+use Rattle.book.specs.Does.{at-rise, spi-write}
+use Rattle.book.specs.Lists.{accepts, step}
 use Rattle.bus.specs.I2c.{sampled, is-reset}
 
 -- ---- a selected sensor that hears SPI: with supply, its pins not dead, not quiet after a soft reset

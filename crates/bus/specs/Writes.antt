@@ -11,8 +11,8 @@ use Rattle.spi.specs.declared.types.Write.{Write}
 use Rattle.spi.specs.declared.types.Write.the-variants as Write
 use Rattle.calls.specs.declared.types.Call.{Call}
 use Rattle.bma150.specs.declared.host.Bma150.{Bma150}
-use Rattle.runs.specs.Does.{action-write, does}
-use Rattle.runs.specs.Lists.{accepts, step}
+use Rattle.book.specs.Does.{action-write, does}
+use Rattle.book.specs.Lists.{accepts, step}
 
 -- a write before others; none is none
 unfoldable pub and-write : Write → List Write → List Write

@@ -10,17 +10,16 @@ use Rattle.calls.specs.declared.types.Call.{Call}
 use Rattle.sensor.specs.declared.types.Operation.the-variants as Operation
 use Rattle.sensor.specs.Image.{cell-byte, with-cell}
 use Rattle.bma150.specs.Called.{Added, start-number}
-use Rattle.runs.specs.Lists.{Words, Bytes, Start, started, after, accepted, Returns}
-use Rattle.runs.specs.Claim.{ending, stored-bytes}
+use Rattle.book.specs.Lists.{Start, started, after, accepted, Returns}
+use Rattle.book.specs.Claim.{ending, stored-bytes}
 
 -- an accepted start, a cell 2b..3d hex, a byte, and a moment below the time limit from the start on and before a write from there would end
 pub record Wanted (b : Start) (address value : ℕ) (at : Time) : Type 0 where
-  pub start-declared : Words (b .time) × Bytes (b .image)
+  pub start-fraction : b .time .1 < 2 ^ 64
   pub start-accepted : start-number (b .time) (b .image) ≡ 0
   pub first-cell : 0x2b ≤ address
   pub last-cell : address ≤ 0x3d
   pub is-byte : value < 256
-  pub cut-declared : Words at
   pub below-limit : at .0 < 2 ^ 32
   pub since : ticks (b .time) ≤ ticks at
   pub before-end : ticks at < ticks (b .time) + write-length

@@ -1,1 +1,4 @@
+pub mod Alike
+pub mod Bytes
 pub mod Printed
+pub mod Examples

@@ -11,8 +11,8 @@ use Rattle.bma150.specs.declared.host.Bma150.{Bma150}
 use Rattle.bma150.specs.Values.{drive-letter}
 use Rattle.commands.specs.declared.Command.{Command}
 use Rattle.commands.specs.declared.Command.the-variants as Command
-use Rattle.runs.specs.Lists.{Answer, answer}
-use Rattle.runs.specs.Lists as C
+use Rattle.book.specs.Lists.{Answer, answer}
+use Rattle.book.specs.Lists as C
 use Rattle.bench.specs.Text.{space, line-feed, hex, word, bit, due-text}
 use Rattle.bench.specs.Line as L
 

@@ -1,1 +1,1 @@
-// What demand 3 says of the lines that the bench program prints: definitions and theorems only.
+// What demand 3 says of the bytes that the bench program reads and prints: definitions and theorems only.

@@ -1,9 +1,6 @@
-pub mod Keeps
-pub mod Pins
-pub mod Parts
-pub mod Sound
-pub mod Steps
-pub mod Lists
-pub mod Examples
-pub mod Replies
 pub mod Functions
+pub mod Demand3
+pub mod Delivered
+pub mod Scripts
+pub mod Impostors
+pub mod Examples

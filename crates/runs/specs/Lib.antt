@@ -1,5 +1,3 @@
-pub mod Does
-pub mod Lists
-pub mod Book
-pub mod Claim
-pub mod Replies
+pub mod Functions
+pub mod Transfers
+pub mod Demand3

@@ -12,10 +12,10 @@ use Rattle.bench.proofs.run.Statement.{statement}
 use Rattle.bench.proofs.run.Tie as tie
 
 abbrev Inv-loop : tie.InvT-loop
-Inv-loop input over trace out₀ at₀ p₀ n₀ out at p n = (at ≤ length input) × (p ≤ 65536) × Upto (bench trace) over n₀ input out₀ out n at p false
+Inv-loop input over trace out₀ at₀ p₀ n₀ lent₀ out at p n lent = (at ≤ length input) × (p ≤ 65536) × Upto (bench trace) over n₀ input out₀ out n at p false
 
 abbrev μ-loop : tie.MeasureT-loop
-μ-loop input over trace out₀ at₀ p₀ n₀ out at p n = length input - at
+μ-loop input over trace out₀ at₀ p₀ n₀ lent₀ out at p n lent = length input - at
 
 loop-holds : tie.Need-loop-holds Inv-loop μ-loop
 loop-holds c = (omega arith, omega arith, begun)
@@ -78,23 +78,26 @@ returns-2 c =
     let done = finished (c .before .before .before .before .before .before .before .before .before .before .before .before .before .before .before .args .trace) b (adv .0) (pace-stopped _ _ _ (stopped-turn _ _ refl)) in
     rw (c .after-block2 .ensures) (done .0, (done .1, (done .2, (adv .0, omega (arith, c .before .before .before .before .before .write-line .ensures .1, c .before .before .before .before .before .before .before .before .before .before .if2 .left)))))
 
+turned-requires : tie.Need-turned-requires Inv-loop μ-loop
+turned-requires c κs = search needs
+
 loop-less : tie.Need-loop-less Inv-loop μ-loop
 loop-less c =
-    let input = c .before .before .before .before .before .before .before .before .before .before .before .before .before .before .args .input .now in
-    let over = c .before .before .before .before .before .before .before .before .before .before .before .before .before .before .args .over in
-    let loop = c .before .before .before .before .before .before .before .before .before .before .before .before .loop in
-    let whole : is-whole over (drop (loop .at) input) ≡ true = sym (c .before .before .before .before .before .before .before .before .before .before .before .is-whole .ensures) ∙ c .before .before .before .before .before .before .before .before .before .before .if1 .taken in
-    let adv = advance over input (loop .at) whole (c .before .before .before .before .before .before .before .decode .ensures) (c .before .before .before .size .ensures) in
+    let input = c .before .before .before .before .before .before .before .before .before .before .before .before .before .before .before .args .input .now in
+    let over = c .before .before .before .before .before .before .before .before .before .before .before .before .before .before .before .args .over in
+    let loop = c .before .before .before .before .before .before .before .before .before .before .before .before .before .loop in
+    let whole : is-whole over (drop (loop .at) input) ≡ true = sym (c .before .before .before .before .before .before .before .before .before .before .before .before .is-whole .ensures) ∙ c .before .before .before .before .before .before .before .before .before .before .before .if1 .taken in
+    let adv = advance over input (loop .at) whole (c .before .before .before .before .before .before .before .before .decode .ensures) (c .before .before .before .before .size .ensures) in
     omega (arith, adv .0, adv .1)
 
 loop-again : tie.Need-loop-again Inv-loop μ-loop
 loop-again c =
-    let input = c .before .before .before .before .before .before .before .before .before .before .before .before .before .before .args .input .now in
-    let over = c .before .before .before .before .before .before .before .before .before .before .before .before .before .before .args .over in
-    let loop = c .before .before .before .before .before .before .before .before .before .before .before .before .loop in
-    let whole : is-whole over (drop (loop .at) input) ≡ true = sym (c .before .before .before .before .before .before .before .before .before .before .before .is-whole .ensures) ∙ c .before .before .before .before .before .before .before .before .before .before .if1 .taken in
-    let adv = advance over input (loop .at) whole (c .before .before .before .before .before .before .before .decode .ensures) (c .before .before .before .size .ensures) in
-    (adv .0, omega arith, went (c .before .before .before .before .before .before .before .before .before .before .before .before .before .before .args .trace) (c .before .before .before .before .before .before .serve .result) (loop .inv .2) whole (c .before .before .before .before .before .before .before .before .before .if2 .left) (c .before .before .before .before .before .before .before .decode .ensures) (c .before .before .before .before .before .before .serve .ensures) (c .before .before .before .size .ensures) (sym (c .if3 .left) ∙ c .before .is-bad .ensures) (c .before .before .before .before .write-line .ensures .0))
+    let input = c .before .before .before .before .before .before .before .before .before .before .before .before .before .before .before .args .input .now in
+    let over = c .before .before .before .before .before .before .before .before .before .before .before .before .before .before .before .args .over in
+    let loop = c .before .before .before .before .before .before .before .before .before .before .before .before .before .loop in
+    let whole : is-whole over (drop (loop .at) input) ≡ true = sym (c .before .before .before .before .before .before .before .before .before .before .before .before .is-whole .ensures) ∙ c .before .before .before .before .before .before .before .before .before .before .before .if1 .taken in
+    let adv = advance over input (loop .at) whole (c .before .before .before .before .before .before .before .before .decode .ensures) (c .before .before .before .before .size .ensures) in
+    (adv .0, omega arith, went (c .before .before .before .before .before .before .before .before .before .before .before .before .before .before .before .args .trace) (c .before .before .before .before .before .before .before .serve .result) (loop .inv .2) whole (c .before .before .before .before .before .before .before .before .before .before .if2 .left) (c .before .before .before .before .before .before .before .before .decode .ensures) (c .before .before .before .before .before .before .before .serve .ensures) (c .before .before .before .before .size .ensures) (sym (c .before .if3 .left) ∙ c .before .before .is-bad .ensures) (c .before .before .before .before .before .write-line .ensures .0))
 
 after-block-requires-3 : tie.Need-after-block-requires-3 Inv-loop μ-loop
 after-block-requires-3 c κs = search needs
@@ -128,6 +131,7 @@ run-spec =
     is-bad-requires
     after-block-requires-2
     returns-2
+    turned-requires
     loop-less
     loop-again
     after-block-requires-3

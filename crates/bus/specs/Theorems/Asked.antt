@@ -26,8 +26,8 @@ use Rattle.sensor.specs.declared.types.Sensor.{Sensor}
 use Rattle.samples.specs.Samples.{sync-local-until}
 use Rattle.serial.specs.SpiEdges.{spi-listens}
 use Rattle.bma150.specs.declared.host.Bma150.{Bma150}
-use Rattle.runs.specs.Does.{at-rise, at-pins, spi-write, action-write, i2c-write, timed-does, does}
-use Rattle.runs.specs.Lists.{accepts, step, after, accepted}
+use Rattle.book.specs.Does.{at-rise, at-pins, spi-write, action-write, i2c-write, timed-does, does}
+use Rattle.book.specs.Lists.{accepts, step, after, accepted}
 use Rattle.effects.specs.Theorems.Keeps as K
 use Rattle.bus.specs.I2c.{Heard, timed-event, event, events, target-of, ended, at-event, shown, sees, seen-of}
 use Rattle.bus.specs.Writes.{and-write, asked, seen-writes, pair-writes}

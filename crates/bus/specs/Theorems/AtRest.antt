@@ -51,8 +51,8 @@ use Rattle.waits.specs.Supply.{without-report, cut, power-off, cold-return, zer
 use Rattle.waits.specs.Due.{completed, waits-ended, pause-ended, write-ended, hold-ends-now, at-deadline}
 use Rattle.bma150.specs.declared.host.Bma150.{Bma150}
 use Rattle.bma150.specs.Called.{start-number, started, after-start, effect, leaves}
-use Rattle.runs.specs.Lists as L
-use Rattle.runs.specs.Lists.{accepts, step, after}
+use Rattle.book.specs.Lists as L
+use Rattle.book.specs.Lists.{accepts, step, after}
 use Rattle.effects.specs.Core as C
 use Rattle.effects.specs.Theorems.Keeps as K
 use Rattle.bus.specs.I2c.{Heard}

@@ -26,7 +26,7 @@ use Rattle.samples.specs.Samples.{sync-local-until}
 use Rattle.serial.specs.I2cPins.{ones-for, acted, i2c-pins, pins-synced}
 use Rattle.bma150.specs.declared.host.Bma150.{Bma150}
 use Rattle.bma150.specs.Called.{effect, leaves}
-use Rattle.runs.specs.Lists.{accepts, step, after, accepted}
+use Rattle.book.specs.Lists.{accepts, step, after, accepted}
 use Rattle.effects.specs.Theorems.Keeps as K
 use Rattle.bus.specs.I2c.{Heard, timed-event, event, target-of, sampled, fetch, resets, timed-ends, ends, shows, sees}
 use Rattle.bus.specs.Theorems.Parts.{absurd-bool, Same, and-then, itself, of, heard, same-target, not-quiet, holds}

@@ -11,7 +11,7 @@ use Rattle.i2c.specs.Transfers.{and-edge}
 use Rattle.i2c.specs.Theorems.Frames.{still-changes-nothing, Serves}
 use Rattle.calls.specs.declared.types.Call.{Call}
 use Rattle.bma150.specs.declared.host.Bma150.{Bma150}
-use Rattle.runs.specs.Lists.{accepts, step, after, accepted}
+use Rattle.book.specs.Lists.{accepts, step, after, accepted}
 use Rattle.bus.specs.I2c.{Heard, event, events, target-of, ends, ended, shows, at-event, shown, sees, seen-of}
 use Rattle.bus.specs.Theorems.Calls.{refused-leaves, hears-on, call-served, call-seen}
 

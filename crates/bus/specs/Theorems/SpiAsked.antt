@@ -30,8 +30,8 @@ use Rattle.sensor.specs.Record.{four-wire}
 use Rattle.samples.specs.Samples.{sync-local-until}
 use Rattle.serial.specs.I2cPins.{i2c-listens}
 use Rattle.bma150.specs.declared.host.Bma150.{Bma150}
-use Rattle.runs.specs.Does.{at-rise, at-pins, spi-write, i2c-write, timed-does, does}
-use Rattle.runs.specs.Lists.{accepts, step, accepted}
+use Rattle.book.specs.Does.{at-rise, at-pins, spi-write, i2c-write, timed-does, does}
+use Rattle.book.specs.Lists.{accepts, step, accepted}
 use Rattle.effects.specs.Theorems.Keeps as KK
 use Rattle.bus.specs.Spi.{Chosen, timed-edge, edge-of, and-some, edges, timed-now, now-of, left-frame, seen-edge, seen-edges}
 use Rattle.bus.specs.Writes.{and-write, asked, deed-writes, edge-writes, frame-writes}

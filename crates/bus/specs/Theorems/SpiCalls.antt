@@ -18,7 +18,7 @@ use Rattle.sensor.specs.declared.types.Sensor.{Sensor}
 use Rattle.sensor.specs.Record.{with-frame, four-wire}
 use Rattle.samples.specs.Samples.{sync-local-until}
 use Rattle.serial.specs.SpiEdges as E
-use Rattle.runs.specs.Does.{at-rise, spi-write}
+use Rattle.book.specs.Does.{at-rise, spi-write}
 use Rattle.effects.specs.Theorems.Keeps as K
 use Rattle.effects.specs.Theorems.Driver as D
 use Rattle.bus.specs.I2c.{sampled}

@@ -24,8 +24,8 @@ use Rattle.serial.specs.SpiEdges as E
 use Rattle.waits.specs.Supply.{supply-low, set-supply}
 use Rattle.bma150.specs.declared.host.Bma150.{Bma150}
 use Rattle.bma150.specs.Called.{effect, leaves}
-use Rattle.runs.specs.Does.{at-rise, spi-write}
-use Rattle.runs.specs.Lists.{accepts, step}
+use Rattle.book.specs.Does.{at-rise, spi-write}
+use Rattle.book.specs.Lists.{accepts, step}
 use Rattle.effects.specs.Theorems.Keeps as K
 use Rattle.bus.specs.Spi.{Chosen, noted, write-resets, timed-leaves, leaves-frame}
 use Rattle.bus.specs.Theorems.Parts.{absurd-bool, and-then, of, is-never}

@@ -19,7 +19,7 @@ use Rattle.calls.specs.declared.types.Timed.the-variants as Timed
 use Rattle.calls.specs.declared.types.Call.{Call}
 use Rattle.calls.specs.declared.types.Call.the-variants as Call
 use Rattle.bma150.specs.declared.host.Bma150.{Bma150}
-use Rattle.runs.specs.Lists.{started, step, after, accepted}
+use Rattle.book.specs.Lists.{started, step, after, accepted}
 use Rattle.bus.specs.Spi.{Chosen, edges, left-frame, sleeps, nows}
 use Rattle.bus.specs.Writes.{asked}
 use Rattle.bus.specs.Theorems.SpiTransfers.{InMode}
@@ -47,8 +47,8 @@ use Rattle.waits.specs.Due as BD
 use Rattle.calls.specs.Facts as TF
 use Rattle.calls.specs.Table as T
 use Rattle.bma150.specs.Called as C
-use Rattle.runs.specs.Does as RD
-use Rattle.runs.specs.Lists as RL
+use Rattle.book.specs.Does as RD
+use Rattle.book.specs.Lists as RL
 use Rattle.bus.specs.I2c as BB
 use Rattle.bus.specs.Spi as BN
 use Rattle.bus.specs.Writes as BX

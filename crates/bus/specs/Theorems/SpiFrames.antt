@@ -10,7 +10,7 @@ use Rattle.spi.specs.Lines.{Event, Now, Seen, seen}
 use Rattle.spi.specs.Answers.{floats}
 use Rattle.calls.specs.declared.types.Call.{Call}
 use Rattle.bma150.specs.declared.host.Bma150.{Bma150}
-use Rattle.runs.specs.Lists.{accepts, step, after, accepted}
+use Rattle.book.specs.Lists.{accepts, step, after, accepted}
 use Rattle.bus.specs.Spi.{Chosen, edge-of, and-some, edges, now-of, leaves-frame, left-frame, sleeps-at, sleeps, now-edge, nows}
 use Rattle.bus.specs.Theorems.Calls.{refused-leaves}
 use Rattle.bus.specs.Theorems.SpiServed.{predicted, call-left}

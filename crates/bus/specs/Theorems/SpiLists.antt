@@ -15,7 +15,7 @@ use Rattle.sensor.specs.Record.{four-wire}
 use Rattle.samples.specs.Samples.{sync-local-until}
 use Rattle.serial.specs.Outputs.{spi-drives, output, i2c-holds, data-output}
 use Rattle.bma150.specs.declared.host.Bma150.{Bma150}
-use Rattle.runs.specs.Lists.{accepts, step, after, accepted}
+use Rattle.book.specs.Lists.{accepts, step, after, accepted}
 use Rattle.bus.specs.I2c.{sampled}
 use Rattle.bus.specs.Spi.{Chosen, edge-of, and-some, edges, now-of, leaves-frame, sleeps-at, spi-pin, seen-edge, now-edge, seen-edges, nows}
 use Rattle.bus.specs.Theorems.Parts.{is-never}

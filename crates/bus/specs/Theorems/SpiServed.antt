@@ -25,8 +25,8 @@ use Rattle.serial.specs.I2cPins.{i2c-listens}
 use Rattle.waits.specs.Supply.{supply-ok, set-supply}
 use Rattle.bma150.specs.declared.host.Bma150.{Bma150}
 use Rattle.bma150.specs.Called.{effect, leaves}
-use Rattle.runs.specs.Does.{at-rise}
-use Rattle.runs.specs.Lists.{accepts, step}
+use Rattle.book.specs.Does.{at-rise}
+use Rattle.book.specs.Lists.{accepts, step}
 use Rattle.effects.specs.Theorems.Driver as D
 use Rattle.bus.specs.I2c.{sampled}
 use Rattle.bus.specs.Spi.{Chosen, timed-edge, edge-of, at-fall, timed-now, now-of, timed-leaves, leaves-frame, sleeps-at}

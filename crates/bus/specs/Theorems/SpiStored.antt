@@ -31,8 +31,8 @@ use Rattle.writes.specs.Write.{write-register}
 use Rattle.serial.specs.SpiEdges as E
 use Rattle.bma150.specs.declared.host.Bma150.{Bma150}
 use Rattle.bma150.specs.Called.{effect, leaves}
-use Rattle.runs.specs.Does.{at-rise, timed-does, does}
-use Rattle.runs.specs.Lists.{accepts, step, after, accepted}
+use Rattle.book.specs.Does.{at-rise, timed-does, does}
+use Rattle.book.specs.Lists.{accepts, step, after, accepted}
 use Rattle.bus.specs.I2c.{sampled}
 use Rattle.bus.specs.Spi.{Chosen, edges, left-frame, seen-edges, nows}
 use Rattle.bus.specs.Writes.{asked, edge-writes}

@@ -31,8 +31,8 @@ use Rattle.samples.specs.Samples.{interaction-deadline, sync-local-until}
 use Rattle.serial.specs.SpiEdges as E
 use Rattle.bma150.specs.declared.host.Bma150.{Bma150}
 use Rattle.bma150.specs.Called.{leaves}
-use Rattle.runs.specs.Does.{at-rise}
-use Rattle.runs.specs.Lists.{accepts, step, after, accepted}
+use Rattle.book.specs.Does.{at-rise}
+use Rattle.book.specs.Lists.{accepts, step, after, accepted}
 use Rattle.effects.specs.Theorems.Keeps as K
 use Rattle.effects.specs.Theorems.Driver as Driver
 use Rattle.bus.specs.I2c.{sampled}

@@ -40,8 +40,8 @@ use Rattle.writes.specs.Write.{register-effect, write-effect, write-kind, write
 use Rattle.samples.specs.Samples.{sync-local-until}
 use Rattle.serial.specs.I2cPins.{acted}
 use Rattle.bma150.specs.declared.host.Bma150.{Bma150}
-use Rattle.runs.specs.Does.{action-write, timed-does, does}
-use Rattle.runs.specs.Lists.{accepts, step, after, accepted}
+use Rattle.book.specs.Does.{action-write, timed-does, does}
+use Rattle.book.specs.Lists.{accepts, step, after, accepted}
 use Rattle.effects.specs.Core as C
 use Rattle.effects.specs.Theorems.Keeps as K
 use Rattle.bus.specs.I2c.{Heard, timed-event, event, events, target-of, sampled, ended, shown, seen-of}

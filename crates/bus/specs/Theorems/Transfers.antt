@@ -34,7 +34,7 @@ use Rattle.serial.specs.Outputs.{i2c-holds, spi-drives}
 use Rattle.bma150.specs.declared.host.Bma150.{Bma150}
 use Rattle.bma150.specs.Called.{Added, adds, of-view, effect, leaves}
 use Rattle.bma150.specs.Values.{view-value}
-use Rattle.runs.specs.Lists.{accepts, step, after, accepted}
+use Rattle.book.specs.Lists.{accepts, step, after, accepted}
 use Rattle.bus.specs.I2c.{Heard, events, target-of, fetch, ended, shown, seen-of}
 use Rattle.bus.specs.Theorems.Reports.{stepped-to}
 use Rattle.bus.specs.Theorems.Calls.{accepted-leaves, meets, report-does}

@@ -24,7 +24,7 @@ use Rattle.serial.specs.I2cPins.{i2c-listens, ones-for, acted, i2c-pins, pins-s
 use Rattle.serial.specs.Outputs.{i2c-holds}
 use Rattle.bma150.specs.declared.host.Bma150.{Bma150}
 use Rattle.bma150.specs.Called.{effect, leaves}
-use Rattle.runs.specs.Lists.{accepts, step}
+use Rattle.book.specs.Lists.{accepts, step}
 use Rattle.effects.specs.Theorems.Keeps as K
 use Rattle.bus.specs.Theorems.Parts.{Parts, Same, of}
 use Rattle.bus.specs.Theorems.Calls.{accepted-leaves}

@@ -18,7 +18,7 @@ use Rattle.calls.specs.Table as T
 use Rattle.calls.specs.Facts as TF
 use Rattle.samples.specs.Samples.{interaction-deadline}
 use Rattle.bma150.specs.declared.host.Bma150.{Bma150}
-use Rattle.runs.specs.Lists.{accepts}
+use Rattle.book.specs.Lists.{accepts}
 
 -- a timed call that sets no accelerations and is no due call
 pub record Plain (t : Timed) : Type 0 where

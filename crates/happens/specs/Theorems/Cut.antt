@@ -27,7 +27,7 @@ use Rattle.sensor.specs.Select.{reselected, selected-to, may-select}
 use Rattle.samples.specs.Samples.{samples-run, write-end, next-deadline, interaction-deadline}
 use Rattle.waits.specs.Supply.{cut, off, returned, supply-low, supply-ok, set-supply}
 use Rattle.bma150.specs.Called.{Added, adds, called, effect, leaves}
-use Rattle.runs.specs.Lists.{accepts}
+use Rattle.book.specs.Lists.{accepts}
 use Rattle.happens.specs.Theorems.Going.{Goes, goes-nowhere, goes-first}
 use Rattle.happens.specs.Theorems.Accepting.{supply-plain, plain-accepted}
 use Rattle.happens.specs.Theorems.Holding.{host, Held, no-samples}

@@ -1,10 +1,9 @@
 -- From the calls that begin a write to what is claimed: the cut, the return and the stored bytes.
-use Prim.Native.Nat.{ℕ, _^_, _<_}
+use Prim.Native.Nat.{ℕ, _^_}
 use mathlib.Core.Path.{_≡_, refl, ap, _∙_}
 use mathlib.Core.Bool.{Bool, true, false}
 use mathlib.Core.List.{List, [], _∷_, _++_}
 use borrow.Author.Tests.{lt-leb}
-use lib.Dec.{lit<}
 use Rattle.time.specs.declared.Time.{Time}
 use Rattle.nv.specs.Cycle as Cycle
 use Rattle.calls.specs.declared.types.Timed.the-variants as Timed
@@ -16,11 +15,11 @@ use Rattle.sensor.specs.declared.types.Sensor.{Sensor}
 use Rattle.sensor.specs.Image.{power-on}
 use Rattle.bma150.specs.declared.host.Bma150.{Bma150}
 use Rattle.bma150.specs.Called.{called}
-use Rattle.runs.specs.Does.{timed-does, does}
-use Rattle.runs.specs.Lists.{AllDeclared, Start, started, accepts, accepted, zeroed, met-zero, Returns}
-use Rattle.runs.specs.Claim.{ending}
+use Rattle.book.specs.Does.{timed-does, does}
+use Rattle.book.specs.Lists.{Fractions, Start, started, accepts, accepted, zeroed, met-zero, Returns}
+use Rattle.book.specs.Claim.{ending}
 use Rattle.happens.specs.Happens.{Wanted, Happens}
-use Rattle.happens.specs.Theorems.Going.{Goes, goes-on, all-declared}
+use Rattle.happens.specs.Theorems.Going.{Goes, goes-on, all-fit}
 use Rattle.happens.specs.Theorems.Holding.{host}
 use Rattle.happens.specs.Theorems.Writes.{Asleep}
 use Rattle.happens.specs.Theorems.Cut.{Dark, torn-cells, dark, is-dark, cut-goes, return-accepted, return-goes, image-handed-out}
@@ -39,7 +38,7 @@ pub record Begins (b : Start) (address value : ℕ) (cs : List Call) : Type 0 wh
   pub goes : Goes (started b) cs (host (b .time) sensor)
   pub asleep : Asleep (b .image) selected sensor
   pub running : sensor .writing .operation ≡ Operation.Running (Cycle.start (b .time)) address value
-  pub declared : AllDeclared cs
+  pub fits : Fractions cs
 
 module _ {b : Start} {a x : ℕ} {at : Time} {cs : List Call} (w : Wanted b a x at) (h : Begins b a x cs) where
   cut-in-time : T.late at ≡ false
@@ -61,9 +60,7 @@ module _ {b : Start} {a x : ℕ} {at : Time} {cs : List Call} (w : Wanted b a x 
 
   all-returns : Returns b (ending cs at 0) at 2400
   all-returns = record {
-    start-declared = w .start-declared;
-    calls-declared = all-declared cs _ (h .declared) ((w .cut-declared, lit< tt), tt);
-    supply-declared = (w .cut-declared, lit< tt);
+    fractions = all-fit cs _ (h .fits) (tt, tt);
     start-accepted = w .start-accepted;
     supply-accepted = ap (λ (k : Bma150). accepts k (Call.At at (Timed.Supply 2400))) (to-cut .left) ∙ return-accepted at cut-in-time gone-dark;
     with-supply = refl;

@@ -4,7 +4,7 @@ use native.Mathlib.Omega.{arith}
 use mathlib.Core.Path.{refl}
 use Rattle.time.specs.Time.{time}
 use Rattle.sensor.specs.Image.{stock}
-use Rattle.runs.specs.Lists.{Start}
+use Rattle.book.specs.Lists.{Start}
 use Rattle.calls.specs.Table as T
 use Rattle.happens.specs.Happens.{Wanted}
 
@@ -15,12 +15,11 @@ pub example : Wanted stock-start 0x2c 0xff (time (2 ^ 64 / 100))
 unfolding T.wrong-length T.late T.too-late T.first-found T.start-refusal
 example =
     record {
-      start-declared = omega arith;
+      start-fraction = omega arith;
       start-accepted = refl;
       first-cell = omega arith;
       last-cell = omega arith;
       is-byte = omega arith;
-      cut-declared = omega arith;
       below-limit = omega arith;
       since = omega arith;
       before-end = omega arith;

@@ -7,7 +7,8 @@ use Rattle.calls.specs.declared.types.Call.{Call}
 use Rattle.bma150.specs.declared.host.Bma150.{Bma150}
 use Rattle.bma150.specs.Called.{leaves}
 use Rattle.happens.specs.Courses.{moved, course}
-use Rattle.runs.specs.Lists.{AllDeclared, accepts, step, after, accepted}
+use Rattle.book.specs.Lists.{Fractions, accepts, step, after, accepted}
+use Rattle.book.proofs.Lists.{after-more}
 use Rattle.bus.specs.Theorems.Calls.{accepted-leaves}
 
 -- every call of cs is accepted from s on, and t is left
@@ -37,11 +38,6 @@ accepted-append (c ∷ cs) ds s = by (accepts s c) refl (accepted-append cs ds (
     by true e r = rw e (ap (λ (l : List Call). c ∷ l) r)
     by false e r = rw e r
 
-after-append : (cs ds : List Call) (s : Bma150) → after s (cs ++ ds) ≡ after (after s cs) ds
-unfolding after
-after-append [] ds s = refl
-after-append (c ∷ cs) ds s = after-append cs ds (step s c)
-
 -- a list, and another after it
 pub goes-on : {s t u : Bma150} {cs ds : List Call} → Goes s cs t → Goes t ds u → Goes s (cs ++ ds) u
 goes-on {s} {t} {u} {cs} {ds} p q =
@@ -50,13 +46,13 @@ goes-on {s} {t} {u} {cs} {ds} p q =
           ∙ ap (λ (l : List Call). l ++ accepted (after s cs) ds) (p .all)
           ∙ ap (λ (k : Bma150). cs ++ accepted k ds) (p .left)
           ∙ ap (λ (l : List Call). cs ++ l) (q .all);
-      left = after-append cs ds s ∙ ap (λ (k : Bma150). after k ds) (p .left) ∙ q .left;
+      left = after-more s cs ds ∙ ap (λ (k : Bma150). after k ds) (p .left) ∙ q .left;
     }
 
--- two lists of calls with arguments of their declared types
-pub all-declared : (cs ds : List Call) → AllDeclared cs → AllDeclared ds → AllDeclared (cs ++ ds)
-all-declared [] ds p q = q
-all-declared (c ∷ cs) ds p q = (p .0, all-declared cs ds (p .1) q)
+-- two lists whose pin calls' fractions fit
+pub all-fit : (cs ds : List Call) → Fractions cs → Fractions ds → Fractions (cs ++ ds)
+all-fit [] ds p q = q
+all-fit (c ∷ cs) ds p q = (p .0, all-fit cs ds (p .1) q)
 
 -- two lists of calls that are the course of one bus
 pub course-append : {A : Type 0} (next : A → Call → Option A) (cs ds : List Call) (p q r : Option A) → course next cs p ≡ q → course next ds q ≡ r → course next (cs ++ ds) p ≡ r

@@ -24,7 +24,7 @@ use Rattle.serial.specs.SpiEdges.{spi-listens, rise-synced, fall-synced}
 use Rattle.serial.specs.I2cPins.{i2c-listens, pins-synced}
 use Rattle.bma150.specs.declared.host.Bma150.{Bma150}
 use Rattle.bma150.specs.Called.{effect, leaves}
-use Rattle.runs.specs.Lists.{accepts}
+use Rattle.book.specs.Lists.{accepts}
 use Rattle.happens.specs.Theorems.Accepting.{Plain, plain-accepted}
 
 -- a sensor and the time of its last accepted call

@@ -1,5 +1,5 @@
 -- Every stored write happens over I2C: START, 70 hex and four pairs of register and value at the start's time.
-use Prim.Native.Nat.{ℕ, _<_}
+use Prim.Native.Nat.{ℕ, _^_, _<_}
 use native.Mathlib.Omega.{arith}
 use mathlib.Core.Path.{_≡_, refl, sym, ap, subst, _∙_}
 use mathlib.Core.Bool.{Bool, true, false}
@@ -28,10 +28,10 @@ use Rattle.samples.specs.Samples.{write-end}
 use Rattle.writes.specs.Write.{write-register}
 use Rattle.serial.specs.I2cPins.{byte-dropped}
 use Rattle.bma150.specs.declared.host.Bma150.{Bma150}
-use Rattle.runs.specs.Lists.{Words, AllDeclared, Start, started}
+use Rattle.book.specs.Lists.{Fractions, Start, started}
 use Rattle.happens.specs.Courses.{moved, course, lines, same-lines, i2c-report, i2c-call, OverI2c}
 use Rattle.happens.specs.Happens.{Wanted, Happens}
-use Rattle.happens.specs.Theorems.Going.{Goes, goes-on, course-append, all-declared}
+use Rattle.happens.specs.Theorems.Going.{Goes, goes-on, course-append, all-fit}
 use Rattle.happens.specs.Theorems.Holding.{host, Held}
 use Rattle.happens.specs.Theorems.Writes.{Awake, Asleep, Manual, automatic-off-written, ee-w-written, stored-written, sleep-written}
 use Rattle.happens.specs.Theorems.Waiting.{idle-undue, running-undue, awake-held, asleep-held}
@@ -49,7 +49,7 @@ pairs now a x = pair-reports now 0x15 0x00 ++ (pair-reports now 0x0a 0x10 ++ (pa
 abbrev pub i2c-writes : (now : Time) (a x : ℕ) → List Call
 i2c-writes now a x = start-reports now ++ (byte-reports now 0x70 ++ pairs now a x)
 
--- ---- they are a course of I2C, and their arguments are of their declared types
+-- ---- they are a course of I2C, and their fractions fit
 
 same-as-itself : (c d : Bool) → same-lines (lines c d) (lines c d) ≡ true
 unfolding same-lines
@@ -104,26 +104,26 @@ over-i2c now a x =
     (course-append i2c-call (pair-reports now 0x0a 0x10) _ (resting false) (resting false) (resting false) (pair-course now 0x0a 0x10)
     (course-append i2c-call (pair-reports now a x) _ (resting false) (resting false) (resting false) (pair-course now a x) (pair-course now 0x0a 0x11)))))
 
-module _ (now : Time) (words : Words now) where
-  clocks-declared : (ds : List Bool) (level : Bool) → AllDeclared (clocks now level ds)
+module _ (now : Time) (small : now .1 < 2 ^ 64) where
+  clocks-fit : (ds : List Bool) (level : Bool) → Fractions (clocks now level ds)
   unfolding clocks
-  clocks-declared [] level = tt
-  clocks-declared (d ∷ ds) level = ((words, tt), ((words, tt), ((words, tt), clocks-declared ds d)))
+  clocks-fit [] level = tt
+  clocks-fit (d ∷ ds) level = (small, (small, (small, clocks-fit ds d)))
 
-  byte-declared : (b : ℕ) → AllDeclared (byte-reports now b)
-  byte-declared b = all-declared (clocks now false (seven-bits b)) _ (clocks-declared _ false) (clocks-declared _ (sent-bit b 6))
+  byte-fits : (b : ℕ) → Fractions (byte-reports now b)
+  byte-fits b = all-fit (clocks now false (seven-bits b)) _ (clocks-fit _ false) (clocks-fit _ (sent-bit b 6))
 
-  pair-declared : (r v : ℕ) → AllDeclared (pair-reports now r v)
-  pair-declared r v = all-declared (byte-reports now r) (byte-reports now v) (byte-declared r) (byte-declared v)
+  pair-fits : (r v : ℕ) → Fractions (pair-reports now r v)
+  pair-fits r v = all-fit (byte-reports now r) (byte-reports now v) (byte-fits r) (byte-fits v)
 
-  declared : (a x : ℕ) → AllDeclared (i2c-writes now a x)
-  declared a x = (
-    (words, tt),
+  fits : (a x : ℕ) → Fractions (i2c-writes now a x)
+  fits a x = (
+    small,
     (
-      (words, tt),
-      all-declared (byte-reports now 0x70) _ (byte-declared 0x70)
-          (all-declared (pair-reports now 0x15 0x00) _ (pair-declared 0x15 0x00)
-          (all-declared (pair-reports now 0x0a 0x10) _ (pair-declared 0x0a 0x10) (all-declared (pair-reports now a x) _ (pair-declared a x) (pair-declared 0x0a 0x11)))),
+      small,
+      all-fit (byte-reports now 0x70) _ (byte-fits 0x70)
+          (all-fit (pair-reports now 0x15 0x00) _ (pair-fits 0x15 0x00)
+          (all-fit (pair-reports now 0x0a 0x10) _ (pair-fits 0x0a 0x10) (all-fit (pair-reports now a x) _ (pair-fits a x) (pair-fits 0x0a 0x11)))),
     ),
   )
 
@@ -222,7 +222,7 @@ module _ {b : Start} {a x : ℕ} {cut : Time} (w : Wanted b a x cut) where
     goes = all-go;
     asleep = asleep-engine (h4 .0) _;
     running = running4;
-    declared = declared t (w .start-declared .0) a x;
+    fits = fits t (w .start-fraction) a x;
   }
 
 -- for every accepted start, every cell and byte and every moment of the cut there are I2C reports that make this write and this cut: right after the return the cell holds the cut rule's byte, and every other cell the start's

@@ -1,5 +1,5 @@
 -- Every stored write happens over SPI: select, and four write frames at the start's time.
-use Prim.Native.Nat.{ℕ, _+_, _<_}
+use Prim.Native.Nat.{ℕ, _+_, _^_, _<_}
 use native.Mathlib.Omega.{arith}
 use mathlib.Core.Path.{_≡_, refl, sym, ap, subst, _∙_}
 use mathlib.Core.Bool.{Bool, true, false}
@@ -25,11 +25,11 @@ use Rattle.samples.specs.Samples.{write-end}
 use Rattle.writes.specs.Write.{write-register}
 use Rattle.bma150.specs.declared.host.Bma150.{Bma150}
 use Rattle.bma150.specs.Called.{leaves}
-use Rattle.runs.specs.Lists.{Words, AllDeclared, Start, started}
+use Rattle.book.specs.Lists.{Fractions, Start, started}
 use Rattle.bus.specs.Theorems.SpiTransfers.{select-accepted}
 use Rattle.happens.specs.Courses.{moved, course, SpiPins, spi, spi-edge, spi-call, OverSpi}
 use Rattle.happens.specs.Happens.{Wanted, Happens}
-use Rattle.happens.specs.Theorems.Going.{Goes, goes-first, goes-on, course-append, all-declared}
+use Rattle.happens.specs.Theorems.Going.{Goes, goes-first, goes-on, course-append, all-fit}
 use Rattle.happens.specs.Theorems.Holding.{host}
 use Rattle.happens.specs.Theorems.Writes.{Awake, Asleep, Manual, automatic-off-written, ee-w-written, stored-written, sleep-written}
 use Rattle.happens.specs.Theorems.Waiting.{idle-undue, running-undue, awake-held}
@@ -47,7 +47,7 @@ frames now a x = frame-edges now 0x15 0x00 ++ (frame-edges now 0x0a 0x10 ++ (fra
 abbrev pub spi-writes : (now : Time) (a x : ℕ) → List Call
 spi-writes now a x = Call.Select true ∷ frames now a x
 
--- ---- they are a course of SPI, and their arguments are of their declared types
+-- ---- they are a course of SPI, and their fractions fit
 
 abbrev chosen : Option SpiPins
 chosen = some (spi true true)
@@ -70,23 +70,23 @@ over-spi now a x =
     (course-append spi-call (frame-edges now 0x0a 0x10) _ chosen chosen chosen (frame-course now 0x0a 0x10)
     (course-append spi-call (frame-edges now a x) _ chosen chosen chosen (frame-course now a x) (frame-course now 0x0a 0x11)))
 
-module _ (now : Time) (words : Words now) where
-  edges-declared : (ds : List Bool) → AllDeclared (edges now ds)
+module _ (now : Time) (small : now .1 < 2 ^ 64) where
+  edges-fit : (ds : List Bool) → Fractions (edges now ds)
   unfolding edges
-  edges-declared [] = tt
-  edges-declared (d ∷ ds) = ((words, tt), ((words, tt), edges-declared ds))
+  edges-fit [] = tt
+  edges-fit (d ∷ ds) = (tt, (small, edges-fit ds))
 
-  frame-declared : (a x : ℕ) → AllDeclared (frame-edges now a x)
-  frame-declared a x =
-      all-declared (byte-edges now a) (byte-edges now x)
-      (all-declared (edges now (seven-bits a)) _ (edges-declared _) (edges-declared _))
-      (all-declared (edges now (seven-bits x)) _ (edges-declared _) (edges-declared _))
+  frame-fits : (a x : ℕ) → Fractions (frame-edges now a x)
+  frame-fits a x =
+      all-fit (byte-edges now a) (byte-edges now x)
+      (all-fit (edges now (seven-bits a)) _ (edges-fit _) (edges-fit _))
+      (all-fit (edges now (seven-bits x)) _ (edges-fit _) (edges-fit _))
 
-  declared : (a x : ℕ) → AllDeclared (spi-writes now a x)
-  declared a x = (
+  fits : (a x : ℕ) → Fractions (spi-writes now a x)
+  fits a x = (
     tt,
-    all-declared (frame-edges now 0x15 0x00) _ (frame-declared 0x15 0x00)
-        (all-declared (frame-edges now 0x0a 0x10) _ (frame-declared 0x0a 0x10) (all-declared (frame-edges now a x) _ (frame-declared a x) (frame-declared 0x0a 0x11))),
+    all-fit (frame-edges now 0x15 0x00) _ (frame-fits 0x15 0x00)
+        (all-fit (frame-edges now 0x0a 0x10) _ (frame-fits 0x0a 0x10) (all-fit (frame-edges now a x) _ (frame-fits a x) (frame-fits 0x0a 0x11))),
   )
 
 -- ---- they begin the write
@@ -153,7 +153,7 @@ module _ {b : Start} {a x : ℕ} {cut : Time} (w : Wanted b a x cut) where
       (frame-left (h4 .0 .awake) (running-undue (few-seconds w) (a-fraction w) (h4 .1)) 0x0a 0x11 (lit< tt) (lit< tt) (h5 .0 .frame))))))
 
   begins : Begins b a x (spi-writes t a x)
-  begins = record { selected = true; sensor = s5; goes = all-go; asleep = h5 .0; running = ap (λ (o : Writing). o .operation) (h5 .1) ∙ h4 .1; declared = declared t (w .start-declared .0) a x }
+  begins = record { selected = true; sensor = s5; goes = all-go; asleep = h5 .0; running = ap (λ (o : Writing). o .operation) (h5 .1) ∙ h4 .1; fits = fits t (w .start-fraction) a x }
 
 -- for every accepted start, every cell and byte and every moment of the cut there are SPI calls that make this write and this cut: right after the return the cell holds the cut rule's byte, and every other cell the start's
 pub every-write-happens-over-spi : (b : Start) (a x : ℕ) (cut : Time) → Wanted b a x cut → Happens OverSpi b a x cut

@@ -12,7 +12,7 @@ use Rattle.time.specs.declared.Time.{Time}
 use Rattle.calls.specs.Table as T
 use Rattle.sensor.specs.Image.{reset-registers, from-nonvolatile}
 use Rattle.bma150.specs.Called.{start-number, after-start}
-use Rattle.runs.specs.Lists.{Start, started}
+use Rattle.book.specs.Lists.{Start, started}
 use Rattle.happens.specs.Happens.{Wanted}
 use Rattle.happens.specs.Theorems.Holding.{host}
 use Rattle.happens.specs.Theorems.Writes.{Awake}
@@ -63,7 +63,7 @@ module _ {b : Start} {a x : ℕ} {at : Time} (w : Wanted b a x at) where
 
   -- its fraction of a second
   pub a-fraction : b .time .1 < 2 ^ 64
-  a-fraction = w .start-declared .0 .1
+  a-fraction = w .start-fraction
 
   -- its sensor
   pub started-is : started b ≡ host (b .time) (from-nonvolatile (b .time) (b .image))

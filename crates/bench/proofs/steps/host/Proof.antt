@@ -15,8 +15,8 @@ use Rattle.bench.proofs.steps.host.Tie as tie
 enum-known-c : tie.Need-enum-known-c
 enum-known-c c = search needs
 
-timed-requires : tie.Need-timed-requires
-timed-requires c κs = search needs
+timed-either-requires : tie.Need-timed-either-requires
+timed-either-requires c κs = search needs
 
 enum-known-c-2 : tie.Need-enum-known-c-2
 enum-known-c-2 c = search needs
@@ -49,7 +49,7 @@ stored-image-requires : tie.Need-stored-image-requires
 stored-image-requires c κs = search needs
 
 returns : tie.Need-returns
-returns c = simp (c .timed .ensures, c .before .before .c .given .1)
+returns c = simp (c .timed-either .ensures, c .before .before .c .given .1)
 
 returns-2 : tie.Need-returns-2
 unfolding number
@@ -77,7 +77,7 @@ host-spec =
     tie.close
     (tie.spec
     enum-known-c
-    timed-requires
+    timed-either-requires
     enum-known-c-2
     temperature-requires
     silent-requires

@@ -8,8 +8,8 @@ use Rattle.calls.specs.declared.types.Call.the-variants as Call
 use Rattle.time.specs.declared.Time.{Time}
 use Rattle.bma150.specs.declared.host.Bma150.{Bma150}
 use Rattle.bma150.specs.Called.{Added, called}
-use Rattle.runs.specs.Lists.{Start, started, after, answers, kept, Returns}
-use Rattle.runs.specs.Book.{opened, booked}
+use Rattle.book.specs.Lists.{Start, started, after, answers, kept, Returns}
+use Rattle.book.specs.Book.{opened, booked}
 
 -- a list and the supply call that ends it
 abbrev pub ending : (cs : List Call) (now : Time) (rail : ℕ) → List Call

@@ -35,9 +35,9 @@ use Rattle.writes.specs.Write.{write-effect, write-kind, write-register}
 use Rattle.sensor.specs.RegisterReads.{peek, counts-as-read, acceleration-read, byte-read, read-began}
 use Rattle.serial.specs.SpiEdges.{first-bit-taken, write-done, bit-done, bit-taken, turned, shift-output, spi-listens, rising-effect}
 use Rattle.serial.specs.I2cPins.{acted, stepped, ones-for, i2c-listens, i2c-pins}
-use Rattle.runs.specs.Does.{spi-write, action-write, i2c-write}
-use Rattle.runs.specs.Book.{operation, accepted-write, of-write}
-use Rattle.runs.proofs.Keeps.{Keeps, then, itself, then-automatic-keeps, framed-keeps, shift-keeps, byte-read-keeps, fetched-keeps}
+use Rattle.book.specs.Does.{spi-write, action-write, i2c-write}
+use Rattle.book.specs.Book.{operation, accepted-write, of-write}
+use Rattle.book.proofs.Keeps.{Keeps, then, itself, then-automatic-keeps, framed-keeps, shift-keeps, byte-read-keeps, fetched-keeps}
 
 -- the running write after this register write
 abbrev pub begun-writing : Write → Sensor → Time → Writing

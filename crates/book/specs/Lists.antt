@@ -5,8 +5,6 @@ use mathlib.Core.Bool.{Bool, true, false, _||_}
 use mathlib.Core.List.{List, [], _∷_}
 use mathlib.Core.Option.{Option, none, some}
 use lib.Dec.{leb, eqb}
-use lib.IntN.{ℤ}
-use lib.Signed.{mag}
 use Rattle.laws.specs.Notation.{if_then_else_}
 use Rattle.time.specs.declared.Time.{Time}
 use Rattle.spi.specs.declared.types.Drive.{Drive}
@@ -20,38 +18,28 @@ use Rattle.sensor.specs.Image.{new-kept}
 use Rattle.samples.specs.Samples.{interaction-deadline}
 use Rattle.bma150.specs.declared.host.Bma150.{Bma150}
 use Rattle.bma150.specs.Called.{Added, number, called, start-number, after-start, interrupt, output, data-output}
-use Rattle.runs.specs.Does.{does}
+use Rattle.book.specs.Does.{does}
 
--- ---- the arguments are of their declared types: two 64-bit words, 32 bits signed, 16 bits, a byte, a length of 64 bits
+-- ---- the fraction of a pin call's time is a 64-bit word, as its type has it; no other argument is bounded
 
-abbrev pub Words : Time → Type 0
-Words t = (t .0 < 2 ^ 64) × (t .1 < 2 ^ 64)
+abbrev pub FitsTimed : Time → Timed → Type 0
+FitsTimed now (Timed.Accelerations x y z) = Unit {0}
+FitsTimed now (Timed.Supply rail) = Unit {0}
+FitsTimed now Timed.Due = Unit {0}
+FitsTimed now (Timed.Rising mosi) = now .1 < 2 ^ 64
+FitsTimed now Timed.Falling = Unit {0}
+FitsTimed now (Timed.Pins before after) = now .1 < 2 ^ 64
 
-abbrev pub Signed : ℤ → Type 0
-Signed z = mag z < 2 ^ 31
+abbrev pub Fits : Call → Type 0
+Fits (Call.At now t) = FitsTimed now t
+Fits (Call.Temperature x) = Unit {0}
+Fits (Call.Select on) = Unit {0}
+Fits (Call.View address) = Unit {0}
+Fits (Call.StoredImage now length) = Unit {0}
 
-abbrev pub DeclaredTimed : Timed → Type 0
-DeclaredTimed (Timed.Accelerations x y z) = Signed x × Signed y × Signed z
-DeclaredTimed (Timed.Supply rail) = rail < 2 ^ 16
-DeclaredTimed Timed.Due = Unit {0}
-DeclaredTimed (Timed.Rising mosi) = Unit {0}
-DeclaredTimed Timed.Falling = Unit {0}
-DeclaredTimed (Timed.Pins before after) = Unit {0}
-
-abbrev pub Declared : Call → Type 0
-Declared (Call.At now t) = Words now × DeclaredTimed t
-Declared (Call.Temperature x) = Signed x
-Declared (Call.Select on) = Unit {0}
-Declared (Call.View address) = address < 2 ^ 8
-Declared (Call.StoredImage now length) = Words now × (length < 2 ^ 64)
-
-abbrev pub Bytes : List ℕ → Type 0
-Bytes [] = Unit {0}
-Bytes (b ∷ bs) = (b < 2 ^ 8) × Bytes bs
-
-abbrev pub AllDeclared : List Call → Type 0
-AllDeclared [] = Unit {0}
-AllDeclared (c ∷ cs) = Declared c × AllDeclared cs
+abbrev pub Fractions : List Call → Type 0
+Fractions [] = Unit {0}
+Fractions (c ∷ cs) = Fits c × Fractions cs
 
 -- ---- one call
 
@@ -124,11 +112,9 @@ last-kept before (c ∷ cs) = last-kept (does c .keeps before) cs
 abbrev pub kept : Start → (cs : List Call) → Kept
 kept b cs = last-kept new-kept (accepted (started b) cs)
 
--- ---- the arguments are of their declared types, the start is accepted, and a list cs is followed by an accepted supply call at `now` that comes back from 0 mV
+-- ---- the start is accepted, and a list cs is followed by an accepted supply call at `now` that comes back from 0 mV
 pub record Returns (b : Start) (cs : List Call) (now : Time) (rail : ℕ) : Type 0 where
-  pub start-declared : Words (b .time) × Bytes (b .image)
-  pub calls-declared : AllDeclared cs
-  pub supply-declared : Declared (Call.At now (Timed.Supply rail))
+  pub fractions : Fractions cs
   pub start-accepted : start-number (b .time) (b .image) ≡ 0
   pub supply-accepted : accepts (after (started b) cs) (Call.At now (Timed.Supply rail)) ≡ true
   pub with-supply : leb 2400 rail ≡ true

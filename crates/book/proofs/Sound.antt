@@ -35,10 +35,10 @@ use Rattle.calls.specs.declared.types.Facts.{Facts}
 use Rattle.calls.specs.Facts.{at, facts}
 use Rattle.calls.specs.Theorems.Left.{clear}
 use Rattle.bma150.specs.declared.host.Bma150.{Bma150}
-use Rattle.runs.specs.Book.{Running, Book, book, struck, operation, filled, completing, completed, closed}
-use Rattle.runs.specs.Book as B
-use Rattle.runs.proofs.Keeps.{Core, core}
-use Rattle.runs.proofs.Parts.{off}
+use Rattle.book.specs.Book.{Running, Book, book, struck, operation, filled, completing, completed, closed}
+use Rattle.book.specs.Book as B
+use Rattle.book.proofs.Keeps.{Core, core}
+use Rattle.book.proofs.Parts.{off}
 
 -- ---- a sensor as a book
 

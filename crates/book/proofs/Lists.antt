@@ -24,15 +24,15 @@ use Rattle.calls.specs.Facts.{timed-facts, facts}
 use Rattle.calls.specs.Table as T
 use Rattle.calls.specs.Theorems.Left.{accepted-is, refused-is}
 use Rattle.bma150.specs.Called.{Added, started, called, leaves, adds, effect, start-number, after-start}
-use Rattle.runs.specs.Does.{does}
-use Rattle.runs.specs.Lists.{Declared, accepts, step, Start, after, answers, accepted, AllDeclared, met-zero, last-kept, kept, Returns}
-use Rattle.runs.specs.Lists as L
-use Rattle.runs.specs.Book.{Book, book, with-rest, struck, opened, changed, entered, booked}
-use Rattle.runs.specs.Claim.{ending, left, stored-bytes, Claim}
-use Rattle.runs.proofs.Keeps.{Core, core, sync-keeps}
-use Rattle.runs.proofs.Parts.{off}
-use Rattle.runs.proofs.Sound.{running-of, read, filled-read, Sound, timely}
-use Rattle.runs.proofs.Steps.{Moved, moved}
+use Rattle.book.specs.Does.{does}
+use Rattle.book.specs.Lists.{Fits, accepts, step, Start, after, answers, accepted, Fractions, met-zero, last-kept, kept, Returns}
+use Rattle.book.specs.Lists as L
+use Rattle.book.specs.Book.{Book, book, with-rest, struck, opened, changed, entered, booked}
+use Rattle.book.specs.Claim.{ending, left, stored-bytes, Claim}
+use Rattle.book.proofs.Keeps.{Core, core, sync-keeps}
+use Rattle.book.proofs.Parts.{off}
+use Rattle.book.proofs.Sound.{running-of, read, filled-read, Sound, timely}
+use Rattle.book.proofs.Steps.{Moved, moved}
 
 -- ---- one call
 
@@ -43,7 +43,7 @@ pub record Stepped (s : Bma150) (c : Call) : Type 0 where
   pub zero : (cs : List Call) → met-zero (s .sensor .supply .cold) (cond (accepts s c) (c ∷ cs) cs) ≡ met-zero (step s c .sensor .supply .cold) cs
   pub kept : (cs : List Call) → last-kept (s .sensor .kept) (cond (accepts s c) (c ∷ cs) cs) ≡ last-kept (step s c .sensor .kept) cs
 
-stepped : (s : Bma150) → Sound (core (s .sensor)) → (c : Call) → Declared c → Stepped s c
+pub stepped : (s : Bma150) → Sound (core (s .sensor)) → (c : Call) → Fits c → Stepped s c
 unfolding entered met-zero last-kept
 stepped s h c d = go (accepts s c) refl
   where
@@ -76,7 +76,7 @@ pub record Ran (s : Bma150) (cs : List Call) : Type 0 where
   pub zero : met-zero (s .sensor .supply .cold) (accepted s cs) ≡ after s cs .sensor .supply .cold
   pub kept : last-kept (s .sensor .kept) (accepted s cs) ≡ after s cs .sensor .kept
 
-ran : (s : Bma150) → Sound (core (s .sensor)) → (cs : List Call) → AllDeclared cs → Ran s cs
+ran : (s : Bma150) → Sound (core (s .sensor)) → (cs : List Call) → Fractions cs → Ran s cs
 unfolding after accepted booked met-zero last-kept
 ran s h [] d = record { sound = h; booked = refl; zero = refl; kept = refl }
 ran s h (c ∷ cs) d =
@@ -89,34 +89,34 @@ ran s h (c ∷ cs) d =
       kept = p .kept (accepted (step s c) cs) ∙ r .kept;
     }
 
-after-more : (s : Bma150) (cs ds : List Call) → after s (cs ++ ds) ≡ after (after s cs) ds
+pub after-more : (s : Bma150) (cs ds : List Call) → after s (cs ++ ds) ≡ after (after s cs) ds
 unfolding after
 after-more s [] ds = refl
 after-more s (c ∷ cs) ds = after-more (step s c) cs ds
 
-booked-more : (k : Book) (cs ds : List Call) → booked k (cs ++ ds) ≡ booked (booked k cs) ds
+pub booked-more : (k : Book) (cs ds : List Call) → booked k (cs ++ ds) ≡ booked (booked k cs) ds
 unfolding booked
 booked-more k [] ds = refl
 booked-more k (c ∷ cs) ds = booked-more (entered k c) cs ds
 
 -- ---- an accepted start
 
-start-is : (b : Start) → start-number (b .time) (b .image) ≡ 0 → L.started b ≡ started (b .time) (b .image)
+pub start-is : (b : Start) → start-number (b .time) (b .image) ≡ 0 → L.started b ≡ started (b .time) (b .image)
 unfolding after-start
 start-is b p = accepted-is _ _ _ (ap (λ (n : ℕ). eqb n 0) p)
 
-start-sound : (b : Start) → start-number (b .time) (b .image) ≡ 0 → Sound (core (L.started b .sensor))
+pub start-sound : (b : Start) → start-number (b .time) (b .image) ≡ 0 → Sound (core (L.started b .sensor))
 unfolding is-set
 start-sound b p = subst (λ (x : Bma150). Sound (core (x .sensor))) (sym (start-is b p)) (record { fine = tt; warm = λ e. refl; deaf = λ e. refl })
 
-start-book : (b : Start) → start-number (b .time) (b .image) ≡ 0 → opened b ≡ read (L.started b)
+pub start-book : (b : Start) → start-number (b .time) (b .image) ≡ 0 → opened b ≡ read (L.started b)
 unfolding running-of
 start-book b p =
     let e = start-is b p in
     ap (λ (x : Core). book (x .cells) (running-of (x .writing .operation)) (struck (L.started b))) (sym (ap (λ (x : Bma150). core (x .sensor)) e))
 
 -- after every list, not only one that ends in a return, the book's cells and running write are the sensor's
-pub book-follows : (b : Start) → start-number (b .time) (b .image) ≡ 0 → (cs : List Call) → AllDeclared cs → booked (opened b) cs ≡ read (after (L.started b) cs)
+pub book-follows : (b : Start) → start-number (b .time) (b .image) ≡ 0 → (cs : List Call) → Fractions cs → booked (opened b) cs ≡ read (after (L.started b) cs)
 book-follows b p cs d = ap (λ (k : Book). booked k cs) (start-book b p) ∙ ran (L.started b) (start-sound b p) cs d .booked
 
 -- ---- a list that ends in a return from 0 mV
@@ -156,7 +156,7 @@ module _ (b : Start) (cs : List Call) (now : Time) (rail : ℕ) (h : Returns b c
   supply = Call.At now (Timed.Supply rail)
 
   run : Ran (L.started b) cs
-  run = ran (L.started b) (start-sound b (h .start-accepted)) cs (h .calls-declared)
+  run = ran (L.started b) (start-sound b (h .start-accepted)) cs (h .fractions)
 
   -- it met 0 mV, so it is off and cold
   is-cold : before .sensor .supply .cold ≡ true
@@ -172,7 +172,7 @@ module _ (b : Start) (cs : List Call) (now : Time) (rail : ℕ) (h : Returns b c
   before-keeps : core (sync-local-until (before .sensor) now false) ≡ core (before .sensor)
   before-keeps = sync-keeps (before .sensor) now false .same
 
-  left-fresh : left b cs now rail ≡ fresh now (before .sensor .nonvolatile) (before .sensor .kept)
+  pub left-fresh : left b cs now rail ≡ fresh now (before .sensor .nonvolatile) (before .sensor .kept)
   unfolding after leaves effect
   left-fresh =
       after-more (L.started b) cs (supply ∷ [])
@@ -191,13 +191,13 @@ module _ (b : Start) (cs : List Call) (now : Time) (rail : ℕ) (h : Returns b c
   bytes-are : stored-bytes b cs now rail ≡ Added.put (before .sensor .nonvolatile)
   bytes-are = ap (λ (x : Bma150). called x (Call.StoredImage now 19) .adds) left-fresh ∙ hands-out now (before .sensor .nonvolatile) (before .sensor .kept) early
 
-  book-is : booked (opened b) (ending cs now rail) ≡ read (left b cs now rail)
+  pub book-is : booked (opened b) (ending cs now rail) ≡ read (left b cs now rail)
   unfolding booked after
   book-is =
       booked-more (opened b) cs (supply ∷ [])
       ∙ ap (λ (k : Book). entered (booked k cs) supply) (start-book b (h .start-accepted))
       ∙ ap (λ (k : Book). entered k supply) (run .booked)
-      ∙ stepped before (run .sound) supply (h .supply-declared) .entered
+      ∙ stepped before (run .sound) supply tt .entered
       ∙ ap read (sym (after-more (L.started b) cs (supply ∷ [])))
 
   stored-half : stored-bytes b cs now rail ≡ Added.put (booked (opened b) (ending cs now rail) .cells)

@@ -20,7 +20,7 @@ use Rattle.sensor.specs.Mode.{criterion}
 use Rattle.sensor.specs.Select.{may-select}
 use Rattle.waits.specs.Supply.{without-report, cut, power-off, zero-while-off, warm-return, cold-return, returned, supply-low, supply-ok, set-supply}
 use Rattle.waits.specs.Due.{waits-ended, pause-ended, completed, write-ended, hold-ends-now, at-deadline}
-use Rattle.runs.proofs.Keeps.{Core, core, with-selected, select-core, waits-keeps, scalars-keeps, waits-served-keeps}
+use Rattle.book.proofs.Keeps.{Core, core, with-selected, select-core, waits-keeps, scalars-keeps, waits-served-keeps}
 
 -- ---- parts replaced
 

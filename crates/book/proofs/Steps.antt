@@ -40,14 +40,14 @@ use Rattle.serial.specs.I2cPins.{i2c-listens, ones-for}
 use Rattle.calls.specs.Table as T
 use Rattle.calls.specs.Facts.{timed-facts, facts}
 use Rattle.bma150.specs.Called.{effect, served, leaves}
-use Rattle.runs.specs.Lists.{DeclaredTimed, Declared, zeroed, accepts}
-use Rattle.runs.specs.Does.{at-rise, at-pins, spi-write, action-write, i2c-write, with-acceleration, supplying, timed, Does, timed-does, does}
-use Rattle.runs.specs.Book.{Running, Book, book, struck, operation, closed, completing, completed, cutting, supplied, accepted-write, of-write, began, changed-at, changed}
-use Rattle.runs.specs.Book as B
-use Rattle.runs.proofs.Keeps.{Core, core, Keeps, then, select-core, sync-keeps, rise-synced-keeps, pins-synced-keeps, falling-keeps}
-use Rattle.runs.proofs.Pins.{begun-writing, rising-keeps, pins-keeps}
-use Rattle.runs.proofs.Parts.{over, off, ended, due-is, cut-to, lost, emptied, cold-again, warm-again, supply-to, supply-is}
-use Rattle.runs.proofs.Sound.{running-of, read, running-operation, runs-running, Fine, Sound, not-over, over-now, end-fits, Timely, timely, due-now}
+use Rattle.book.specs.Lists.{FitsTimed, Fits, zeroed, accepts}
+use Rattle.book.specs.Does.{at-rise, at-pins, spi-write, action-write, i2c-write, with-acceleration, supplying, timed, Does, timed-does, does}
+use Rattle.book.specs.Book.{Running, Book, book, struck, operation, closed, completing, completed, cutting, supplied, accepted-write, of-write, began, changed-at, changed}
+use Rattle.book.specs.Book as B
+use Rattle.book.proofs.Keeps.{Core, core, Keeps, then, select-core, sync-keeps, rise-synced-keeps, pins-synced-keeps, falling-keeps}
+use Rattle.book.proofs.Pins.{begun-writing, rising-keeps, pins-keeps}
+use Rattle.book.proofs.Parts.{over, off, ended, due-is, cut-to, lost, emptied, cold-again, warm-again, supply-to, supply-is}
+use Rattle.book.proofs.Sound.{running-of, read, running-operation, runs-running, Fine, Sound, not-over, over-now, end-fits, Timely, timely, due-now}
 
 -- a call that does d takes the five parts from k to l, and the book to m
 pub record Moved (k l : Core) (d : Does) (m : Book) : Type 0 where
@@ -286,19 +286,19 @@ module _ (b : Bma150) (h : Sound (core (b .sensor))) where
 
   -- ---- every timed call, and every call
 
-  moved-timed : (now : Time) (t : Timed) → DeclaredTimed t → now .1 < 2 ^ 64 → accepts b (Call.At now t) ≡ true → Goes now t
+  moved-timed : (now : Time) (t : Timed) → FitsTimed now t → accepts b (Call.At now t) ≡ true → Goes now t
   unfolding facts timed-facts
-  moved-timed now (Timed.Accelerations x y z) d small p = moved-accelerations now x y z (timely (b .last) s now (Call.At now (Timed.Accelerations x y z)) p _ refl)
-  moved-timed now (Timed.Supply rail) d small p = moved-supply now rail (timely (b .last) s now (Call.At now (Timed.Supply rail)) p _ refl)
-  moved-timed now Timed.Due d small p = moved-due now (due-now (b .last) s now (Call.At now Timed.Due) p refl)
-  moved-timed now (Timed.Rising mosi) d small p = moved-rising now mosi small (timely (b .last) s now (Call.At now (Timed.Rising mosi)) p _ refl)
-  moved-timed now Timed.Falling d small p = moved-falling now (timely (b .last) s now (Call.At now Timed.Falling) p _ refl)
-  moved-timed now (Timed.Pins before after) d small p = moved-pins now before after small (timely (b .last) s now (Call.At now (Timed.Pins before after)) p _ refl)
+  moved-timed now (Timed.Accelerations x y z) small p = moved-accelerations now x y z (timely (b .last) s now (Call.At now (Timed.Accelerations x y z)) p _ refl)
+  moved-timed now (Timed.Supply rail) small p = moved-supply now rail (timely (b .last) s now (Call.At now (Timed.Supply rail)) p _ refl)
+  moved-timed now Timed.Due small p = moved-due now (due-now (b .last) s now (Call.At now Timed.Due) p refl)
+  moved-timed now (Timed.Rising mosi) small p = moved-rising now mosi small (timely (b .last) s now (Call.At now (Timed.Rising mosi)) p _ refl)
+  moved-timed now Timed.Falling small p = moved-falling now (timely (b .last) s now (Call.At now Timed.Falling) p _ refl)
+  moved-timed now (Timed.Pins before after) small p = moved-pins now before after small (timely (b .last) s now (Call.At now (Timed.Pins before after)) p _ refl)
 
   -- an accepted call moves sensor and book alike
-  pub moved : (c : Call) → Declared c → accepts b c ≡ true → Moved (core s) (core (leaves b c .sensor)) (does c) (changed (read b) s c)
+  pub moved : (c : Call) → Fits c → accepts b c ≡ true → Moved (core s) (core (leaves b c .sensor)) (does c) (changed (read b) s c)
   unfolding leaves does changed-at zeroed may-select
-  moved (Call.At now t) d p = moved-timed now t (d .1) (d .0 .1) p
+  moved (Call.At now t) d p = moved-timed now t d p
   moved (Call.Temperature x) d p = record { cells = refl; running = refl; sound = record { fine = h .fine; warm = h .warm; deaf = h .deaf }; zero = refl; kept = refl }
   moved (Call.Select on) d p =
       subst (λ (l : Core). Moved (core s) l (does (Call.Select on)) (read b)) (sym (select-core s (may-select s on)))

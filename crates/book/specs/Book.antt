@@ -20,8 +20,8 @@ use Rattle.sensor.specs.declared.types.Sensor.{Sensor}
 use Rattle.sensor.specs.Record.{with-nonvolatile, with-writing, gate}
 use Rattle.sensor.specs.Image.{cell-byte, with-cell}
 use Rattle.bma150.specs.declared.host.Bma150.{Bma150}
-use Rattle.runs.specs.Does.{Does, Asked, does}
-use Rattle.runs.specs.Lists.{Start, started, accepts, step}
+use Rattle.book.specs.Does.{Does, Asked, does}
+use Rattle.book.specs.Lists.{Start, started, accepts, step}
 
 -- ---- state: 19 cells, at most one running write, and the definitions' record with both struck out
 

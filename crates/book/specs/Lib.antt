@@ -1,0 +1,6 @@
+pub mod Does
+pub mod Lists
+pub mod Book
+pub mod Claim
+pub mod Closed
+pub mod Theorems

@@ -1,0 +1,1 @@
+// No code: lists of calls, the write book, and demand 3 over the definitions, in specs/.
