@@ -207,7 +207,7 @@ module _ (b : Start) (cs : List Call) (now : Time) (rail : ℕ) (h : Returns b c
   kept-is = sym (ap (λ (x : Bma150). last-kept (x .sensor .kept) (accepted (L.started b) cs)) (start-is b (h .start-accepted))) ∙ run .kept
 
 -- the bytes put
-bytes-of : Added → List ℕ
+unfoldable pub bytes-of : Added → List ℕ
 bytes-of Added.nothing = []
 bytes-of (Added.report values) = []
 bytes-of (Added.viewed value) = []

@@ -24,7 +24,7 @@ use Rattle.book.specs.Book.{opened, booked}
 use Rattle.book.specs.Claim.{ending, left, stored-bytes}
 use Rattle.book.specs.Closed.{writes, that-runs, latest, told}
 use Rattle.book.specs.Theorems.Closed.{by-latest}
-use Rattle.book.proofs.Lists.{after-more, start-is, claim}
+use Rattle.book.proofs.Lists.{after-more, start-is, bytes-of, claim}
 use Rattle.book.proofs.Closed.{all-over}
 use Rattle.runs.specs.Demand3.{functions, Run, Ran, taken, Back, moved, Numbered, Demand3}
 use Rattle.runs.proofs.Functions.{served-is, replies, start-answer, begun, starting}
@@ -95,13 +95,6 @@ module _ {b : Start} {cs : List Call} (r : Ran functions b cs) where
     kept-is : last-kept new-kept (taken cs (r .out)) ≡ L.kept b cs
     kept-is = ap (λ (l : List Call). last-kept new-kept l) accepted-are
 
--- the bytes put
-bytes-of : Added → List ℕ
-bytes-of Added.nothing = []
-bytes-of (Added.report values) = []
-bytes-of (Added.viewed value) = []
-bytes-of (Added.put bytes) = bytes
-
 stored : {b : Start} {cs : List Call} {now : Time} {bytes : List ℕ} (r : Ran functions b cs) → Fractions cs → (k : Back r now bytes) → bytes ≡ booked (opened b) (ending cs now (k .rail)) .cells
 unfolding bytes-of
 stored {b} {cs} {now} r fits k = ap bytes-of (put-is r fits k ∙ claim .stored b cs now (k .rail) (returns r fits k))
@@ -115,7 +108,7 @@ same {b} {d} {cs} {ds} {now} r q fits ok k j kept further p o =
     ∙ claim .same b d cs ds now (k .rail) (j .rail) (returns r fits k) (returns q ok j) (sym (put-is r fits k) ∙ put-is q ok j) (sym (kept-is r fits k) ∙ kept ∙ kept-is q ok j) further
     ∙ sym (run-is o .0 ∙ ap (λ (s : Bma150). answers s further) (back-is q ok j))
 
--- in the mission's words
+-- the stored bytes by the latest write to each cell
 pub closed : {b : Start} {cs : List Call} {now : Time} {bytes : List ℕ} (r : Ran functions b cs) → Fractions cs → (k : Back r now bytes)
     → let ws = writes b (ending cs now (k .rail)) in ((address : ℕ) → cell-byte bytes address ≡ told (b .image) address (latest address ws)) × (that-runs ws ≡ none)
 closed {b} {cs} {now} r fits k = (

@@ -108,7 +108,7 @@ served-is {s} (Serves.stored-image {now = now} {n = n} κs lent left r o h p q) 
     let b : left .now ≡ put-in (called s (Call.StoredImage now n) .adds) (lent .now) = p .1 ∙ ap (λ (k : ℕ). put-in (called s (Call.StoredImage now k) .adds) (lent .now)) h in
     (image-leaves s now n, answer-is s (Call.StoredImage now n) s _ _ o q (image-leaves s now n) e (buffer-is s now n _ (lent .now) (left .now) e b))
 
--- ---- there is a reply to every call of declared arguments
+-- ---- there is a reply to every call
 
 -- for each number that the table gives there is an answer
 row-answer : {n : ℕ} (found : Bool) (why : Refusal) → (o : Outcome) × (T.number o ≡ n) → (o : Outcome) × (T.number o ≡ cond found (T.refusal-number why) n)

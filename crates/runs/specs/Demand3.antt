@@ -117,7 +117,7 @@ pub record Delivered : Type 2 where
   -- demand 3 of the code, with the due and the pin call lent too
   pub demand-3 : Demand3 functions
   pub lent-too : LentToo
-  -- the stored bytes in the mission's words: the starting byte if no write to the cell began, else what the latest one left; and none runs any more
+  -- the stored bytes by the latest write: the starting byte if no write to the cell began, else what the latest one left; and none runs any more
   pub closed : {b : Start} {cs : List Call} {now : Time} {bytes : List ℕ} (r : Ran functions b cs) → Fractions cs → (k : Back r now bytes)
       → let ws = writes b (ending cs now (k .rail)) in ((address : ℕ) → cell-byte bytes address ≡ told (b .image) address (latest address ws)) × (that-runs ws ≡ none)
   -- every public function meets its contract on the machine, and no contract asks anything of its arguments
