@@ -167,14 +167,12 @@ class Source:
         return " ".join(text.split())[:60]
 
 
-def gather(program, counters, root):
-    """Counts by place; a place that is compiled twice is reached if one is."""
+def mapping(program, root):
+    """Every place of the carried functions, with the counter that counts it and the function that has it."""
     found = sections(program)
     names = file_names(found["__llvm_covmap"])
     sources = {name: Source(os.path.join(root, name)) for name in CARRIED}
-    places = {}
     for name, code, expressions, regions in functions(found["__llvm_covfun"], names):
-        values = counters.get((name, code), ())
         for file, (kind, numbers, line, column, end, last) in regions:
             carried = next((c for c in CARRIED if file.endswith("src/" + c)), None)
             if carried is None or kind == "gap":
@@ -185,10 +183,21 @@ def gather(program, counters, root):
             text = source.snippet(line, column, end, last)
             outcomes = ["code"] if kind == "code" else ["true", "false"]
             for outcome, number in zip(outcomes, numbers):
-                key = (carried, line, column, outcome, text)
-                got = count(number, values, expressions)
-                places[key] = max(places.get(key, 0), got)
-    return places
+                yield (carried, line, column, outcome, text), (name, code), number, expressions
+
+
+def gather(places, counters):
+    """Counts by place; a place that is compiled twice is reached if one is."""
+    found = {}
+    for key, function, number, expressions in places:
+        got = count(number, counters.get(function, ()), expressions)
+        found[key] = max(found.get(key, 0), got)
+    return found
+
+
+def label(key):
+    file, line, column, outcome, _ = key
+    return f"{file}:{line}:{column} {outcome}"
 
 
 def reasons(path):
@@ -204,7 +213,7 @@ def reasons(path):
 
 def main():
     program, raw, root, unreachable = sys.argv[1:]
-    places = gather(program, profile(raw), root)
+    places = gather(mapping(program, root), profile(raw))
     known = reasons(unreachable)
     failed = False
     print(f"{'file':30} {'regions':>12} {'outcomes':>12}")
@@ -216,8 +225,8 @@ def main():
             figures.append(f"{sum(n > 0 for n in mine)}/{len(mine)}")
         print(f"{name or 'all':30} {figures[0]:>12} {figures[1]:>12}")
     for key in sorted(places):
-        file, line, column, outcome, text = key
-        place = f"{file}:{line}:{column} {outcome}"
+        text = key[4]
+        place = label(key)
         if places[key] == 0:
             why = known.get(place)
             failed |= why is None
@@ -228,4 +237,5 @@ def main():
     sys.exit(failed)
 
 
-main()
+if __name__ == "__main__":
+    main()

@@ -63,8 +63,6 @@ pub struct Generator {
     /// Sample phases that may still be simulated.
     credit: i128,
     phases: u128,
-    /// Levels of the I2C lines as last reported: clock, data.
-    lines: [bool; 2],
     /// Whether the data line is reported low while the sensor holds it.
     wired: bool,
     /// The select line as last set.
@@ -74,7 +72,7 @@ pub struct Generator {
     codes: [i32; 3],
     /// The register that a sample at this very moment would set.
     tied: Option<u8>,
-    replies: [u64; 8],
+    replies: [u64; 9],
 }
 
 impl Generator {
@@ -92,13 +90,12 @@ impl Generator {
             write_start: Time::ZERO,
             credit: 4000,
             phases: 0,
-            lines: [true; 2],
             wired: true,
             selected: false,
             breaks_in: None,
             codes: [0; 3],
             tied: None,
-            replies: [0; 8],
+            replies: [0; 9],
         }
     }
 
@@ -134,7 +131,7 @@ impl Generator {
         self.phases
     }
     /// Replies by number: 0 accepted, then the refusals of the table.
-    pub fn replies(&self) -> [u64; 8] {
+    pub fn replies(&self) -> [u64; 9] {
         self.replies
     }
 

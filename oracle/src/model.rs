@@ -22,6 +22,7 @@ pub enum Refusal {
     DueFirst = 5,
     NotDue = 6,
     Command = 7,
+    PinJump = 8,
 }
 
 impl Refusal {
@@ -34,6 +35,7 @@ impl Refusal {
             Refusal::DueFirst => "due-first",
             Refusal::NotDue => "not-due",
             Refusal::Command => "command",
+            Refusal::PinJump => "pin-jump",
         }
     }
 }
@@ -111,11 +113,21 @@ impl Events {
     }
 }
 
+/// The levels before and after a report: clock, data.
+fn before(levels: u8) -> [bool; 2] {
+    after(levels >> 2)
+}
+fn after(levels: u8) -> [bool; 2] {
+    [2, 1].map(|bit| levels & bit != 0)
+}
+
 #[derive(Clone, Debug, PartialEq, Eq)]
 pub struct Model {
     sensor: Bma150,
     /// The last accepted time.
     last: Time,
+    /// Levels of the I2C lines after the last accepted report: clock, data.
+    lines: [bool; 2],
 }
 
 impl Default for Model {
@@ -123,6 +135,7 @@ impl Default for Model {
         Self {
             sensor: Bma150::new(Time::ZERO),
             last: Time::ZERO,
+            lines: [true; 2],
         }
     }
 }
@@ -130,6 +143,9 @@ impl Default for Model {
 impl Model {
     pub fn last(&self) -> Time {
         self.last
+    }
+    pub fn lines(&self) -> [bool; 2] {
+        self.lines
     }
     pub fn next_due(&self) -> Option<Time> {
         self.sensor.interaction_deadline()
@@ -160,7 +176,7 @@ impl Model {
     }
 
     /// The first refusal of the table that applies, in the order
-    /// 3, 4, 2, 5, 6. Numbers 7 and 1 are met before a command exists.
+    /// 3, 4, 2 or 8, 5, 6. Numbers 7 and 1 are met before a command exists.
     pub fn refusal(&self, command: &Command) -> Option<Refusal> {
         let at = command.time()?;
         if at.raw() >= TIME_LIMIT {
@@ -177,6 +193,11 @@ impl Model {
             Command::Accelerations { axes, .. } => {
                 if axes.iter().any(|v| v.unsigned_abs() > AXIS_LIMIT) {
                     return Some(Refusal::AxisRange);
+                }
+            }
+            Command::Pins { levels, .. } => {
+                if before(*levels) != self.lines {
+                    return Some(Refusal::PinJump);
                 }
             }
             _ => {}
@@ -200,6 +221,7 @@ impl Model {
             Command::Start { at, image } => {
                 self.sensor = Bma150::from_nonvolatile(at, &image)?;
                 self.last = at;
+                self.lines = [true; 2];
             }
             Command::Temperature(value) => self.sensor.set_temperature(value),
             Command::Select(level) => self.sensor.set_selected(level),
@@ -241,9 +263,8 @@ impl Model {
                 sensor.falling_at(now)?;
             }
             Command::Pins { levels, .. } => {
-                let [clock, data, after_clock, after_data] =
-                    [8, 4, 2, 1].map(|bit| levels & bit != 0);
-                sensor.i2c_pins_at([clock, data], [after_clock, after_data], now)?;
+                sensor.i2c_pins_at(before(levels), after(levels), now)?;
+                self.lines = after(levels);
             }
             _ => unreachable!("not a timed call"),
         }

@@ -55,13 +55,13 @@ module _ (s : Bma150) where
   pub temperature-called : (x : ℤ) → silent (called s (Call.Temperature x) .sensor) 0 ≡ called s (Call.Temperature x)
   unfolding unless-refused adds
   temperature-called x =
-      let e = temperature-accepted (s .last) (interaction-deadline (s .sensor)) x in
+      let e = temperature-accepted (s .last) (interaction-deadline (s .sensor)) (s .sensor .kept .lines) x in
       called-is (sym e) refl (sym (ap (λ (n : ℕ). unless-refused n Added.nothing Added.nothing) e))
 
   pub select-called : (on : Bool) → silent (called s (Call.Select on) .sensor) 0 ≡ called s (Call.Select on)
   unfolding unless-refused adds
   select-called on =
-      let e = select-accepted (s .last) (interaction-deadline (s .sensor)) on in
+      let e = select-accepted (s .last) (interaction-deadline (s .sensor)) (s .sensor .kept .lines) on in
       called-is (sym e) refl (sym (ap (λ (n : ℕ). unless-refused n Added.nothing Added.nothing) e))
 
 -- what a lent pin call left and answered

@@ -48,7 +48,8 @@ word number =
     else if eqb number 4 then ascii "time-back"
     else if eqb number 5 then ascii "due-first"
     else if eqb number 6 then ascii "not-due"
-    else ascii "command"
+    else if eqb number 7 then ascii "command"
+    else ascii "pin-jump"
 
 -- ---- interrupt 0 or 1
 

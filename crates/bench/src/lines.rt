@@ -37,6 +37,7 @@ fn put_refusal(out: &mut [u8; 65536], o: usize, why: Refusal) -> usize
         Refusal::DueFirst => put_word(out, o, b"due-first"),
         Refusal::NotDue => put_word(out, o, b"not-due"),
         Refusal::Command => put_word(out, o, b"command"),
+        Refusal::PinJump => put_word(out, o, b"pin-jump"),
     }
 }
 

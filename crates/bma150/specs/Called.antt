@@ -15,6 +15,7 @@ use Rattle.calls.specs.declared.types.Call.{Call}
 use Rattle.calls.specs.declared.types.Call.the-variants as Call
 use Rattle.calls.specs.Table.{refusal, start-refusal, unless-refused}
 use Rattle.sensor.specs.declared.types.Sensor.{Sensor}
+use Rattle.sensor.specs.Record.{with-lines}
 use Rattle.sensor.specs.Image.{nonvolatile, from-nonvolatile, stock}
 use Rattle.sensor.specs.Mode as Mode
 use Rattle.sensor.specs.RegisterReads.{peek}
@@ -71,14 +72,14 @@ put-in (Added.put bytes) buffer = bytes
 
 -- ---- an accepted call
 
--- 01: a timed call is `sync_local_until(now, false)` and then this
+-- 01: a timed call is `sync_local_until(now, false)` and then this; the levels after a pin report are kept
 unfoldable pub effect : Sensor → (now : Time) → Timed → Served
 effect s now (Timed.Accelerations x y z) = without-report (set-input s x y z)
 effect s now (Timed.Supply rail) = set-supply s rail now
 effect s now Timed.Due = at-deadline s now
 effect s now (Timed.Rising mosi) = without-report (rising-at s mosi now)
 effect s now Timed.Falling = without-report (falling-at s now)
-effect s now (Timed.Pins before after) = without-report (i2c-pins-at s before after now)
+effect s now (Timed.Pins before after) = without-report (with-lines (i2c-pins-at s before after now) after)
 
 -- supply and due calls report
 unfoldable pub timed-adds : Timed → Report → Added
@@ -117,7 +118,7 @@ pub record Called : Type 0 where
 
 -- next due is that before any sampling
 abbrev pub number : Bma150 → Call → ℕ
-number s c = refusal (s .last) (interaction-deadline (s .sensor)) c
+number s c = refusal (s .last) (interaction-deadline (s .sensor)) (s .sensor .kept .lines) c
 
 abbrev pub called : Bma150 → Call → Called
 called s c = record {

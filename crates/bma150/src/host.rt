@@ -80,7 +80,9 @@ fn effect(sensor: Sensor, now: Time, t: Timed) -> Served
         Timed::Due => at_deadline(sensor, now),
         Timed::Rising(mosi) => without_report(rising_at(sensor, mosi, now)),
         Timed::Falling => without_report(falling_at(sensor, now)),
-        Timed::Pins(before, after) => without_report(i2c_pins_at(sensor, before, after, now)),
+        Timed::Pins(before, after) => {
+            without_report(i2c_pins_at(sensor, before, after, now).with_lines(after))
+        }
     }
 }
 
@@ -131,7 +133,7 @@ impl Bma150 {
     {
         let s = self.sensor;
         let last = self.last;
-        let outcome = refusal(last, interaction_deadline(s), Call::At(now, t));
+        let outcome = refusal(last, interaction_deadline(s), s.lines(), Call::At(now, t));
         if is_accepted(outcome) {
             let a = sync_local_until(s, now, false);
             let b = effect(a, now, t);
@@ -238,6 +240,7 @@ impl Bma150 {
         let outcome = refusal(
             last,
             interaction_deadline(s),
+            s.lines(),
             Call::StoredImage(when, buffer.len()),
         );
         if is_accepted(outcome) {

@@ -5,3 +5,4 @@ pub mod Sound
 pub mod Steps
 pub mod Lists
 pub mod Closed
+pub mod Follows

@@ -139,7 +139,7 @@ returns-cold u rail now p q r = go (ltb rail 2400) (is-off u) (u .supply .cold) 
 
 -- the stored-image call at that time hands out the bytes
 hands-out : (now : Time) (cells : List ℕ) (k : Kept) → T.late now ≡ false → called (fresh now cells k) (Call.StoredImage now 19) .adds ≡ Added.put cells
-unfolding adds T.unless-refused T.refusal T.first-found facts T.wrong-length T.too-late T.goes-back T.out-of-range T.before-due T.beside-due image-at
+unfolding adds T.unless-refused T.refusal T.first-found facts T.wrong-length T.too-late T.goes-back T.out-of-range T.jumps T.before-due T.beside-due image-at
 hands-out now cells k p = go (T.late now) (ltb (ticks now) (ticks now)) p (le-ltb (ticks now) (ticks now) (le-refl (ticks now)))
   where
     go : (a b : Bool) → a ≡ false → b ≡ false → cond (eqb (cond a 3 (cond b 4 0)) 0) (Added.put cells) Added.nothing ≡ Added.put cells
@@ -186,7 +186,7 @@ module _ (b : Start) (cs : List Call) (now : Time) (rail : ℕ) (h : Returns b c
 
   early : T.late now ≡ false
   unfolding facts timed-facts
-  early = timely (before .last) (before .sensor) now supply (h .supply-accepted) _ refl .early
+  early = timely (before .last) (before .sensor) now supply (h .supply-accepted) _ _ refl .early
 
   bytes-are : stored-bytes b cs now rail ≡ Added.put (before .sensor .nonvolatile)
   bytes-are = ap (λ (x : Bma150). called x (Call.StoredImage now 19) .adds) left-fresh ∙ hands-out now (before .sensor .nonvolatile) (before .sensor .kept) early

@@ -31,6 +31,7 @@ use Rattle.calls.specs.declared.types.Kind.the-variants as Kind
 use Rattle.calls.specs.declared.types.Dated.the-variants as Dated
 use Rattle.calls.specs.declared.types.Bytes.the-variants as Bytes
 use Rattle.calls.specs.declared.types.Axes.{Axes}
+use Rattle.calls.specs.declared.types.Lines.{Lines}
 use Rattle.calls.specs.declared.types.Facts.{Facts}
 use Rattle.calls.specs.Facts.{at, facts}
 use Rattle.calls.specs.Theorems.Left.{clear}
@@ -165,21 +166,21 @@ pub record Timely (s : Sensor) (now : Time) : Type 0 where
   pub free : is-by (interaction-deadline s) now ≡ false
 
 -- what the table finds not to be so of an accepted timed call
-module _ (last : Time) (s : Sensor) (now : Time) (c : Call) (p : eqb (T.refusal last (interaction-deadline s) c) 0 ≡ true) where
-  pub timely : (axes : Axes) → facts c ≡ record { kind = Kind.Timed; time = Dated.At now; bytes = Bytes.Nothing; axes = axes } → Timely s now
+module _ (last : Time) (s : Sensor) (now : Time) (c : Call) (p : eqb (T.refusal last (interaction-deadline s) (s .kept .lines) c) 0 ≡ true) where
+  pub timely : (axes : Axes) (from : Lines) → facts c ≡ record { kind = Kind.Timed; time = Dated.At now; bytes = Bytes.Nothing; axes = axes; lines = from } → Timely s now
   unfolding T.too-late T.before-due T.due-by
-  timely axes e =
-      let q = clear last (interaction-deadline s) c p in
+  timely axes from e =
+      let q = clear last (interaction-deadline s) (s .kept .lines) c p in
       record {
         early = sym (ap (λ (f : Facts). T.too-late (f .time)) e) ∙ q .1 .0;
-        free = sym (ap (λ (f : Facts). T.before-due (interaction-deadline s) (f .kind) (f .time)) e) ∙ q .1 .1 .1 .1 .0;
+        free = sym (ap (λ (f : Facts). T.before-due (interaction-deadline s) (f .kind) (f .time)) e) ∙ q .1 .1 .1 .1 .1 .0;
       }
 
   pub due-now : facts c ≡ at Kind.Due now → is-at (interaction-deadline s) now ≡ true
   unfolding T.beside-due T.due-at
   due-now e =
-      let q = clear last (interaction-deadline s) c p in
-      go (is-at (interaction-deadline s) now) (sym (ap (λ (f : Facts). T.beside-due (interaction-deadline s) (f .kind) (f .time)) e) ∙ q .1 .1 .1 .1 .1 .0)
+      let q = clear last (interaction-deadline s) (s .kept .lines) c p in
+      go (is-at (interaction-deadline s) now) (sym (ap (λ (f : Facts). T.beside-due (interaction-deadline s) (f .kind) (f .time)) e) ∙ q .1 .1 .1 .1 .1 .1 .0)
     where
       go : (b : Bool) → not b ≡ false → b ≡ true
       go true r = refl

@@ -30,7 +30,7 @@ use Rattle.sensor.specs.declared.types.Operation.the-variants as Operation
 use Rattle.sensor.specs.declared.types.Writing.{Writing}
 use Rattle.sensor.specs.declared.types.Sensor.{Sensor}
 use Rattle.sensor.specs.declared.types.Supply.{Supply}
-use Rattle.sensor.specs.Record.{with-writing, is-off, serial-not-ready, is-quiet, is-writing, four-wire}
+use Rattle.sensor.specs.Record.{lines-kept, is-off, serial-not-ready, is-quiet, is-writing, four-wire}
 use Rattle.sensor.specs.Record as Record
 use Rattle.sensor.specs.Image.{with-cell}
 use Rattle.samples.specs.Samples.{interaction-deadline}
@@ -121,16 +121,20 @@ module _ (b : Bma150) (h : Sound (core (b .sensor))) where
           chosen true = record { cells = refl; running = refl; sound = record { fine = tt; warm = h .warm; deaf = h .deaf }; supply = refl; kept = refl }
           chosen false = record { cells = refl; running = refl; sound = h; supply = refl; kept = refl }
 
-  -- such parts of a call that brings no supply and sets nothing
-  ended-is-moved : (l : Core) (d : Does) (m : Book) → Ended l m → d .rail ≡ none → ((k : Kept) → d .keeps k ≡ k) → Moved (core s) l d m
+  -- such parts, but for what is kept, of a call that brings no supply
+  keeping-moved : (l : Core) (d : Does) (m : Book) (x : Kept) → Ended l m → d .rail ≡ none → d .keeps (s .kept) ≡ x → Moved (core s) (keeping l x) d m
   unfolding zeroed
-  ended-is-moved l d m r e f = record {
+  keeping-moved l d m x r e f = record {
     cells = r .cells;
     running = r .running;
-    sound = r .sound;
+    sound = record { fine = r .sound .fine; warm = r .sound .warm; deaf = r .sound .deaf };
     zero = ap (λ (o : Option ℕ). zeroed (s .supply .cold) o) e ∙ ap (λ (x : Supply). x .cold) (sym (r .supply));
-    kept = f (s .kept) ∙ sym (r .kept);
+    kept = f;
   }
+
+  -- and of one that sets nothing
+  ended-is-moved : (l : Core) (d : Does) (m : Book) → Ended l m → d .rail ≡ none → ((k : Kept) → d .keeps k ≡ k) → Moved (core s) l d m
+  ended-is-moved l d m r e f = keeping-moved l d m (l .kept) r e (f (s .kept) ∙ sym (r .kept))
 
   moved-due : (now : Time) → is-at (interaction-deadline s) now ≡ true → Goes now Timed.Due
   unfolding effect timed-does changed-at supplied began accepted-write
@@ -261,20 +265,20 @@ module _ (b : Bma150) (h : Sound (core (b .sensor))) where
 
   -- a pin call whose edge makes the write w on u
   module _ (now : Time) (small : now .1 < 2 ^ 64) (a : Timely s now) (u : Sensor) (k : Keeps s u) (w : Write) (live : (x v : ℕ) → w ≡ Write.Register x v → is-off s ≡ false) where
-    edge-moved : (t : Sensor) (d : Does) → Keeps (with-writing u (begun-writing w u now)) t → d .rail ≡ none → ((x : Kept) → d .keeps x ≡ x)
+    edge-moved : (t : Sensor) (d : Does) (x : Kept) → core t ≡ keeping (with-running (core u) (begun-writing w u now)) x → d .rail ≡ none → d .keeps (s .kept) ≡ x
         → Moved (core s) (core t) d (began (completed (read b) now) (record { write = w; meets = u }) now)
-    edge-moved t d p e f =
-        let c : core t ≡ with-running (core s) (begun-writing w u now) = p .same ∙ ap (λ (x : Core). with-running x (begun-writing w u now)) (k .same) in
+    edge-moved t d x p e f =
+        let c : core t ≡ keeping (with-running (core s) (begun-writing w u now)) x = p ∙ ap (λ (y : Core). keeping (with-running y (begun-writing w u now)) x) (k .same) in
         subst (λ (x : Book). Moved (core s) (core t) d (began x (record { write = w; meets = u }) now)) (sym (not-over b h now (a .free)))
         (subst (λ (l : Core). Moved (core s) l d (began (read b) (record { write = w; meets = u }) now)) (sym c)
-        (ended-is-moved _ d _ (write-moved u k w now (a .early) small live) e f))
+        (keeping-moved _ d _ x (write-moved u k w now (a .early) small live) e f))
 
   moved-rising : (now : Time) (mosi : Bool) → now .1 < 2 ^ 64 → Timely s now → Goes now (Timed.Rising mosi)
   unfolding effect timed-does changed-at supplied
   moved-rising now mosi small a =
       let u = at-rise s now in
       let k : Keeps s u = then (sync-keeps s now false) (rise-synced-keeps (sync-local-until s now false) now) in
-      edge-moved now small a u k (spi-write u mosi) (spi-live u k mosi) _ _ (rising-keeps u mosi now) refl (λ x. refl)
+      edge-moved now small a u k (spi-write u mosi) (spi-live u k mosi) (served b now (Timed.Rising mosi) .sensor) _ (u .kept) (rising-keeps u mosi now .same) refl (sym (ap (λ (y : Core). y .kept) (k .same)))
 
   moved-pins : (now : Time) (before after : Levels) → now .1 < 2 ^ 64 → Timely s now → Goes now (Timed.Pins before after)
   unfolding effect timed-does changed-at supplied
@@ -282,18 +286,19 @@ module _ (b : Bma150) (h : Sound (core (b .sensor))) where
       let e = edge before after in
       let u = at-pins s e now in
       let k : Keeps s u = then (sync-keeps s now false) (pins-synced-keeps (sync-local-until s now false) e now) in
-      edge-moved now small a u k (i2c-write u e) (i2c-live u k e) _ _ (pins-keeps u e now) refl (λ x. refl)
+      edge-moved now small a u k (i2c-write u e) (i2c-live u k e) (served b now (Timed.Pins before after) .sensor) _ (lines-kept (u .kept) after)
+      (ap (λ (y : Core). keeping y (lines-kept (y .kept) after)) (pins-keeps u e now .same)) refl (sym (ap (λ (y : Core). lines-kept (y .kept) after) (k .same)))
 
   -- ---- every timed call, and every call
 
   moved-timed : (now : Time) (t : Timed) → FitsTimed now t → accepts b (Call.At now t) ≡ true → Goes now t
   unfolding facts timed-facts
-  moved-timed now (Timed.Accelerations x y z) small p = moved-accelerations now x y z (timely (b .last) s now (Call.At now (Timed.Accelerations x y z)) p _ refl)
-  moved-timed now (Timed.Supply rail) small p = moved-supply now rail (timely (b .last) s now (Call.At now (Timed.Supply rail)) p _ refl)
+  moved-timed now (Timed.Accelerations x y z) small p = moved-accelerations now x y z (timely (b .last) s now (Call.At now (Timed.Accelerations x y z)) p _ _ refl)
+  moved-timed now (Timed.Supply rail) small p = moved-supply now rail (timely (b .last) s now (Call.At now (Timed.Supply rail)) p _ _ refl)
   moved-timed now Timed.Due small p = moved-due now (due-now (b .last) s now (Call.At now Timed.Due) p refl)
-  moved-timed now (Timed.Rising mosi) small p = moved-rising now mosi small (timely (b .last) s now (Call.At now (Timed.Rising mosi)) p _ refl)
-  moved-timed now Timed.Falling small p = moved-falling now (timely (b .last) s now (Call.At now Timed.Falling) p _ refl)
-  moved-timed now (Timed.Pins before after) small p = moved-pins now before after small (timely (b .last) s now (Call.At now (Timed.Pins before after)) p _ refl)
+  moved-timed now (Timed.Rising mosi) small p = moved-rising now mosi small (timely (b .last) s now (Call.At now (Timed.Rising mosi)) p _ _ refl)
+  moved-timed now Timed.Falling small p = moved-falling now (timely (b .last) s now (Call.At now Timed.Falling) p _ _ refl)
+  moved-timed now (Timed.Pins before after) small p = moved-pins now before after small (timely (b .last) s now (Call.At now (Timed.Pins before after)) p _ _ refl)
 
   -- an accepted call moves sensor and book alike
   pub moved : (c : Call) → Fits c → accepts b c ≡ true → Moved (core s) (core (leaves b c .sensor)) (does c) (changed (read b) s c)

@@ -20,7 +20,7 @@ use Rattle.calls.specs.declared.types.Call.{Call}
 use Rattle.calls.specs.declared.types.Call.the-variants as Call
 use Rattle.sensor.specs.declared.types.Kept.{Kept}
 use Rattle.sensor.specs.declared.types.Sensor.{Sensor}
-use Rattle.sensor.specs.Record.{with-input, is-quiet, four-wire}
+use Rattle.sensor.specs.Record.{with-input, lines-kept, is-quiet, four-wire}
 use Rattle.samples.specs.Samples.{sync-local-until}
 use Rattle.serial.specs.SpiEdges.{spi-listens, rise-synced}
 use Rattle.serial.specs.I2cPins.{i2c-listens, ones-for, pins-synced}
@@ -69,7 +69,7 @@ pub record Does : Type 0 where
 abbrev no-write : Sensor → Asked
 no-write s = record { write = Write.Nothing; meets = s }
 
--- 01: temperature, select, view and stored image do no more to the book; accelerations and temperature set what is kept
+-- 01: temperature, select, view and stored image do no more to the book; accelerations, temperature and pin reports set what is kept
 abbrev pub untimed : (keeps : Kept → Kept) → Does
 untimed keeps = record { time = none; keeps = keeps; rail = none; asks = no-write }
 
@@ -100,7 +100,7 @@ timed-does now (Timed.Supply rail) = supplying now rail
 timed-does now Timed.Due = timed now
 timed-does now (Timed.Rising mosi) = asking now (rise-asks now mosi)
 timed-does now Timed.Falling = timed now
-timed-does now (Timed.Pins before after) = asking now (pins-ask now before after)
+timed-does now (Timed.Pins before after) = record { time = some now; keeps = λ k. lines-kept k after; rail = none; asks = pins-ask now before after }
 
 unfoldable pub does : Call → Does
 does (Call.At now t) = timed-does now t

@@ -3,4 +3,5 @@ pub mod Lists
 pub mod Book
 pub mod Claim
 pub mod Closed
+pub mod Follows
 pub mod Theorems

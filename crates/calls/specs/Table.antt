@@ -1,6 +1,6 @@
--- 01's table of refusals: which one a call gets, from the last accepted time, next due and the call.
+-- 01's table of refusals: which one a call gets, from the last accepted time, next due, the I2C lines as last reported, and the call.
 use Prim.Native.Nat.{ℕ, _^_}
-use mathlib.Core.Bool.{Bool, false, not, _||_}
+use mathlib.Core.Bool.{Bool, false, Bool·beq, not, _&&_, _||_}
 use mathlib.Core.List.{List, [], _∷_}
 use lib.Dec.{leb, eqb}
 use lib.IntN.{ℤ, pos, negℤ}
@@ -8,6 +8,7 @@ use lib.Signed.{ltZ}
 use Rattle.laws.specs.Notation.{if_then_else_}
 use Rattle.time.specs.declared.Time.{Time}
 use Rattle.time.specs.Time.{precedes}
+use Rattle.i2c.specs.declared.types.Levels.{Levels}
 use Rattle.deadlines.specs.declared.Deadline.{Deadline}
 use Rattle.deadlines.specs.Deadlines.{is-at, is-by}
 use Rattle.calls.specs.declared.types.Call.{Call}
@@ -23,6 +24,8 @@ use Rattle.calls.specs.declared.types.Bytes.{Bytes}
 use Rattle.calls.specs.declared.types.Bytes.the-variants as Bytes
 use Rattle.calls.specs.declared.types.Axes.{Axes}
 use Rattle.calls.specs.declared.types.Axes.the-variants as Axes
+use Rattle.calls.specs.declared.types.Lines.{Lines}
+use Rattle.calls.specs.declared.types.Lines.the-variants as Lines
 use Rattle.calls.specs.declared.types.Facts.{Facts}
 use Rattle.calls.specs.Facts.{bringing, facts}
 
@@ -53,6 +56,10 @@ not-due = 6
 abbrev pub command : ℕ
 command = 7
 
+-- a pin report that does not follow on
+abbrev pub pin-jump : ℕ
+pin-jump = 8
+
 -- the number of a refusal, and of what a call answers
 unfoldable pub refusal-number : Refusal → ℕ
 refusal-number Refusal.ImageLength = image-length
@@ -62,6 +69,7 @@ refusal-number Refusal.TimeBack = time-back
 refusal-number Refusal.DueFirst = due-first
 refusal-number Refusal.NotDue = not-due
 refusal-number Refusal.Command = command
+refusal-number Refusal.PinJump = pin-jump
 
 unfoldable pub number : Outcome → ℕ
 number Outcome.Accepted = no-refusal
@@ -118,6 +126,14 @@ beside-due due Kind.Timed time = false
 beside-due due Kind.Due time = not (due-at due time)
 beside-due due Kind.Untimed time = false
 
+-- 8: the levels before a pin report are not those after the last accepted one
+abbrev pub same-levels : (a b : Levels) → Bool
+same-levels a b = Bool·beq (a .scl) (b .scl) && Bool·beq (a .sda) (b .sda)
+
+unfoldable pub jumps : (lines : Levels) → Lines → Bool
+jumps lines (Lines.Before before) = not (same-levels lines before)
+jumps lines Lines.Unreported = false
+
 -- ---- which refusal a call gets: the first found
 
 -- a row: a number and a test
@@ -132,25 +148,27 @@ unfoldable pub first-found : {A : Type 0} → List (Row A) → A → ℕ
 first-found [] a = no-refusal
 first-found (r ∷ rs) a = if r .test a then r .number else first-found rs a
 
--- what a call meets: the last accepted time, next due before any sampling, and what is asked of the call itself
+-- what a call meets: the last accepted time, next due before any sampling, the levels after the last accepted pin report, and what is asked of the call itself
 pub record Meets : Type 0 where
   pub last : Time
   pub due : Deadline
+  pub lines : Levels
   pub call : Facts
 
--- 01's order: 1, 3, 4, 2, 5, 6
+-- 01's order, with 8 after 4 and before 5: 1, 3, 4, 2, 8, 5, 6
 abbrev pub rows : List (Row Meets)
 rows =
     row image-length (λ m. wrong-length (m .call .bytes))
     ∷ row time-limit (λ m. too-late (m .call .time))
     ∷ row time-back (λ m. goes-back (m .last) (m .call .time))
     ∷ row axis-range (λ m. out-of-range (m .call .axes))
+    ∷ row pin-jump (λ m. jumps (m .lines) (m .call .lines))
     ∷ row due-first (λ m. before-due (m .due) (m .call .kind) (m .call .time))
     ∷ row not-due (λ m. beside-due (m .due) (m .call .kind) (m .call .time))
     ∷ []
 
-unfoldable pub refusal : (last : Time) (due : Deadline) → Call → ℕ
-refusal last due c = first-found rows (record { last = last; due = due; call = facts c })
+unfoldable pub refusal : (last : Time) (due : Deadline) (lines : Levels) → Call → ℕ
+refusal last due lines c = first-found rows (record { last = last; due = due; lines = lines; call = facts c })
 
 -- 01: a start has 1 and 3
 abbrev pub start-rows : List (Row Facts)

@@ -9,10 +9,12 @@ use crate::types::Call;
 use crate::types::Dated;
 use crate::types::Facts;
 use crate::types::Kind;
+use crate::types::Lines;
 use crate::types::Outcome;
 use crate::types::Refusal;
 use crate::types::Timed;
 use deadlines::Deadline;
+use i2c::types::Levels;
 use time::Time;
 
 // A timed call with nothing more to ask of it.
@@ -24,6 +26,7 @@ fn at(kind: Kind, now: Time) -> Facts
         time: Dated::At(now),
         bytes: Bytes::Nothing,
         axes: Axes::Unset,
+        lines: Lines::Unreported,
     }
 }
 
@@ -35,6 +38,7 @@ fn untimed() -> Facts
         time: Dated::Undated,
         bytes: Bytes::Nothing,
         axes: Axes::Unset,
+        lines: Lines::Unreported,
     }
 }
 
@@ -47,6 +51,7 @@ fn bringing(now: Time, n: usize) -> Facts
         time: Dated::At(now),
         bytes: Bytes::Count(n),
         axes: Axes::Unset,
+        lines: Lines::Unreported,
     }
 }
 
@@ -58,6 +63,19 @@ fn setting(now: Time, x: i32, y: i32, z: i32) -> Facts
         time: Dated::At(now),
         bytes: Bytes::Nothing,
         axes: Axes::Set(x, y, z),
+        lines: Lines::Unreported,
+    }
+}
+
+fn reporting(now: Time, before: Levels) -> Facts
+    ensures { λ r. ⌜ r ≡ F.reporting now before ⌝ }
+{
+    Facts {
+        kind: Kind::Timed,
+        time: Dated::At(now),
+        bytes: Bytes::Nothing,
+        axes: Axes::Unset,
+        lines: Lines::Before(before),
     }
 }
 
@@ -70,7 +88,7 @@ fn timed_facts(now: Time, t: Timed) -> Facts
         Timed::Due => at(Kind::Due, now),
         Timed::Rising(_) => at(Kind::Timed, now),
         Timed::Falling => at(Kind::Timed, now),
-        Timed::Pins(_, _) => at(Kind::Timed, now),
+        Timed::Pins(before, _) => reporting(now, before),
     }
 }
 
@@ -153,6 +171,25 @@ fn out_of_range(a: Axes) -> bool
     }
 }
 
+fn same_levels(a: Levels, b: Levels) -> bool
+    ensures { λ r. ⌜ r ≡ Table.same-levels a b ⌝ }
+{
+    if a.scl == b.scl {
+        return a.sda == b.sda;
+    }
+    false
+}
+
+// 8.
+fn jumps(lines: Levels, l: Lines) -> bool
+    ensures { λ r. ⌜ r ≡ Table.jumps lines l ⌝ }
+{
+    match l {
+        Lines::Before(before) => !same_levels(lines, before),
+        Lines::Unreported => false,
+    }
+}
+
 fn due_by(due: Deadline, t: Dated) -> bool
     ensures { λ r. ⌜ r ≡ Table.due-by due t ⌝ }
 {
@@ -193,15 +230,16 @@ fn beside_due(due: Deadline, kind: Kind, t: Dated) -> bool
     }
 }
 
-// The refusal of a call on a sensor with this last accepted time and next due.
-pub fn refusal(last: Time, due: Deadline, c: Call) -> Outcome
-    ensures { λ r. ⌜ Table.number r ≡ Table.refusal last due c ⌝ }
+// The refusal of a call on a sensor with this last accepted time, next due and levels after the last accepted pin report.
+pub fn refusal(last: Time, due: Deadline, lines: Levels, c: Call) -> Outcome
+    ensures { λ r. ⌜ Table.number r ≡ Table.refusal last due lines c ⌝ }
 {
     let f = facts(c);
     let kind = f.kind;
     let time = f.time;
     let bytes = f.bytes;
     let axes = f.axes;
+    let from = f.lines;
     if wrong_length(bytes) {
         return Outcome::Refused(Refusal::ImageLength);
     }
@@ -213,6 +251,9 @@ pub fn refusal(last: Time, due: Deadline, c: Call) -> Outcome
     }
     if out_of_range(axes) {
         return Outcome::Refused(Refusal::AxisRange);
+    }
+    if jumps(lines, from) {
+        return Outcome::Refused(Refusal::PinJump);
     }
     if before_due(due, kind, time) {
         return Outcome::Refused(Refusal::DueFirst);

@@ -30,6 +30,7 @@ pub enum Refusal {
     DueFirst,
     NotDue,
     Command,
+    PinJump,
 }
 
 // Accepted, or refused and why.
@@ -63,10 +64,17 @@ pub enum Axes {
     Unset,
 }
 
+// The levels of the I2C lines before a pin report.
+pub enum Lines {
+    Before(Levels),
+    Unreported,
+}
+
 // What the table asks of a call.
 pub struct Facts {
     pub kind: Kind,
     pub time: Dated,
     pub bytes: Bytes,
     pub axes: Axes,
+    pub lines: Lines,
 }

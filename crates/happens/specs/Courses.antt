@@ -1,6 +1,6 @@
 -- Lists of calls that are the course of one bus: each call begins where the one before it left the pins.
 use mathlib.Core.Path.{_≡_}
-use mathlib.Core.Bool.{Bool, true, false, Bool·beq, not, _&&_}
+use mathlib.Core.Bool.{Bool, true, false, not}
 use mathlib.Core.List.{List, [], _∷_}
 use mathlib.Core.Option.{Option, none, some}
 use Rattle.laws.specs.Notation.{if_then_else_}
@@ -9,6 +9,7 @@ use Rattle.calls.specs.declared.types.Timed.{Timed}
 use Rattle.calls.specs.declared.types.Timed.the-variants as Timed
 use Rattle.calls.specs.declared.types.Call.{Call}
 use Rattle.calls.specs.declared.types.Call.the-variants as Call
+use Rattle.calls.specs.Table.{same-levels}
 
 -- one call, by what it makes of the pins; none where it does not fit
 unfoldable pub moved : {A : Type 0} → (A → Call → Option A) → Option A → Call → Option A
@@ -57,10 +58,6 @@ OverSpi cs = course spi-call cs (some (spi false true)) ≡ some (spi true true)
 abbrev pub lines : (scl sda : Bool) → Levels
 lines scl sda = record { scl = scl; sda = sda }
 
--- two reports of the same levels
-unfoldable pub same-lines : Levels → Levels → Bool
-same-lines l m = Bool·beq (l .scl) (m .scl) && Bool·beq (l .sda) (m .sda)
-
 -- a report begins at the levels that the lines have; no other timed call fits
 unfoldable pub i2c-report : Levels → Timed → Option Levels
 i2c-report l (Timed.Accelerations x y z) = none
@@ -68,7 +65,7 @@ i2c-report l (Timed.Supply rail) = none
 i2c-report l Timed.Due = none
 i2c-report l (Timed.Rising mosi) = none
 i2c-report l Timed.Falling = none
-i2c-report l (Timed.Pins before after) = if same-lines l before then some after else none
+i2c-report l (Timed.Pins before after) = if same-levels l before then some after else none
 
 -- a call of I2C: a report; no other call fits
 unfoldable pub i2c-call : Levels → Call → Option Levels

@@ -22,14 +22,14 @@ use Rattle.deadlines.specs.declared.Deadline.the-variants.{At, Never}
 use Rattle.deadlines.specs.Deadlines.{is-set, is-by, sooner, first, earliest}
 use Rattle.sensor.specs.declared.types.Sensor.{Sensor}
 use Rattle.sensor.specs.Record.{is-off}
-use Rattle.sensor.specs.Image.{from-nonvolatile, stock, shadowing}
+use Rattle.sensor.specs.Image.{from-nonvolatile, stock, new-kept, shadowing}
 use Rattle.samples.specs.Samples.{samples-run, next-sample, write-end, sample-due, next-deadline, interaction-deadline}
 use Rattle.sensor.specs.Select.{may-select, selected-to}
 use Rattle.waits.specs.Supply as Supply
 use Rattle.calls.specs.declared.types.Timed.the-variants as Timed
 use Rattle.calls.specs.declared.types.Call.the-variants as Call
 use Rattle.calls.specs.Facts.{timed-facts, facts}
-use Rattle.calls.specs.Table.{wrong-length, beyond, any-beyond, out-of-range, late, too-late, goes-back, due-by, before-due, beside-due, first-found, refusal}
+use Rattle.calls.specs.Table.{wrong-length, beyond, any-beyond, out-of-range, jumps, late, too-late, goes-back, due-by, before-due, beside-due, first-found, refusal}
 
 -- M1, M2: an edge of a clock that starts at 0, in units
 abbrev edge-at : ℕ → ℤ
@@ -49,7 +49,7 @@ off-at rail = answer (is-off (Supply.set-supply new rail (time 0) .sensor))
 
 -- M12: the refusal of accelerations with this x, nothing due
 abbrev refused-axis : ℕ → ℤ
-refused-axis x = pos (refusal (time 0) Never (Call.At (time 0) (Timed.Accelerations (pos x) (pos 0) (pos 0))))
+refused-axis x = pos (refusal (time 0) Never (new-kept .lines) (Call.At (time 0) (Timed.Accelerations (pos x) (pos 0) (pos 0))))
 
 -- M4: window 4 (bandwidth 4), codes −1, 0, 0 and then 0
 abbrev fourth-answer : ℤ
@@ -95,5 +95,5 @@ rows =
     ∷ []
 
 pub rows-hold : all rows ≡ true
-unfolding after pushed answered ring tabulate sumZ mean axis observe raised sets clears code held range-g ignores unwritable image-blocks sleep-blocks locked working begins stored configure is-set is-by sooner first earliest samples-run next-sample write-end sample-due next-deadline may-select selected-to Supply.cut Supply.supply-low Supply.supply-ok Supply.set-supply shadowing timed-facts facts wrong-length beyond any-beyond out-of-range late too-late goes-back due-by before-due beside-due first-found refusal
+unfolding after pushed answered ring tabulate sumZ mean axis observe raised sets clears code held range-g ignores unwritable image-blocks sleep-blocks locked working begins stored configure is-set is-by sooner first earliest samples-run next-sample write-end sample-due next-deadline may-select selected-to Supply.cut Supply.supply-low Supply.supply-ok Supply.set-supply shadowing timed-facts facts wrong-length beyond any-beyond out-of-range jumps late too-late goes-back due-by before-due beside-due first-found refusal
 rows-hold = refl

@@ -13,6 +13,7 @@ use Rattle.calls.specs.declared.types.Call.{Call}
 use Rattle.calls.specs.declared.types.Call.the-variants as Call
 use Rattle.calls.specs.Table as T
 use Rattle.calls.specs.Theorems.Left.{accepted-is, refused-is}
+use Rattle.sensor.specs.declared.types.Kept.{Kept}
 use Rattle.sensor.specs.Image.{cell-byte, new-kept}
 use Rattle.samples.specs.Samples.{interaction-deadline}
 use Rattle.bma150.specs.declared.host.Bma150.{Bma150}
@@ -26,6 +27,7 @@ use Rattle.book.specs.Closed.{writes, that-runs, latest, told}
 use Rattle.book.specs.Theorems.Closed.{by-latest}
 use Rattle.book.proofs.Lists.{after-more, start-is, bytes-of, claim}
 use Rattle.book.proofs.Closed.{all-over}
+use Rattle.book.proofs.Follows.{step-kept, started-kept}
 use Rattle.runs.specs.Demand3.{functions, Run, Ran, taken, Back, moved, Numbered, Demand3}
 use Rattle.runs.proofs.Functions.{served-is, replies, start-answer, begun, starting}
 
@@ -157,19 +159,26 @@ time-after s c = go (accepts s c) refl
     go true p = ap (λ (x : Bma150). x .last) (accepted-is _ s (leaves s c) p) ∙ last-of s c
     go false p = ap (λ (x : Bma150). x .last) (refused-is _ s (leaves s c) p)
 
-numbered : (s : Bma150) (cs : List Call) → Numbered (s .last) (interaction-deadline (s .sensor)) cs (answers s cs)
+numbered : (s : Bma150) (cs : List Call) → Numbered (s .last) (interaction-deadline (s .sensor)) (s .sensor .kept) cs (answers s cs)
 unfolding answers
 numbered s [] = tt
 numbered s (c ∷ cs) =
-    (refl, subst (λ (t : Time). Numbered t (interaction-deadline (step s c .sensor)) cs (answers (step s c) cs)) (time-after s c) (numbered (step s c) cs))
+    let due = interaction-deadline (step s c .sensor) in
+    let t : Time = cond (accepts s c) (moved (s .last) (does c .time)) (s .last) in (
+      refl,
+      subst (λ (k : Kept). Numbered t due k cs (answers (step s c) cs)) (step-kept s c)
+          (subst (λ (x : Time). Numbered x due (step s c .sensor .kept) cs (answers (step s c) cs)) (time-after s c) (numbered (step s c) cs)),
+    )
 
-refused : {b : Start} {cs : List Call} (r : Ran functions b cs) → Numbered (b .time) (r .start .next-due) cs (r .out)
+refused : {b : Start} {cs : List Call} (r : Ran functions b cs) → Numbered (b .time) (r .start .next-due) new-kept cs (r .out)
 refused {b} {cs} r =
     let t : L.started b .last ≡ b .time = ap (λ (x : Bma150). x .last) (start-is b (start-taken r)) in
     let d : r .start .next-due ≡ interaction-deadline (L.started b .sensor) = ap (λ (a : Answer). a .next-due) (begun (r .begins) .1) in
-    subst (λ (x : Time). Numbered x (r .start .next-due) cs (r .out)) t
-    (subst (λ (x : Deadline). Numbered (L.started b .last) x cs (r .out)) (sym d)
-    (subst (λ (l : List Answer). Numbered (L.started b .last) (interaction-deadline (L.started b .sensor)) cs l) (sym (out-is r)) (numbered (L.started b) cs)))
+    let s = L.started b in
+    subst (λ (k : Kept). Numbered (b .time) (r .start .next-due) k cs (r .out)) (started-kept b)
+    (subst (λ (x : Time). Numbered x (r .start .next-due) (s .sensor .kept) cs (r .out)) t
+    (subst (λ (x : Deadline). Numbered (s .last) x (s .sensor .kept) cs (r .out)) (sym d)
+    (subst (λ (l : List Answer). Numbered (s .last) (interaction-deadline (s .sensor)) (s .sensor .kept) cs l) (sym (out-is r)) (numbered s cs))))
 
 pub demand-3 : Demand3 functions
 demand-3 = record {

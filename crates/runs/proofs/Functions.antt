@@ -14,6 +14,7 @@ use ghost.Atoms.{Atoms}
 use contract.Monad.{Fun}
 use denote.Ref.{RefT}
 use Rattle.time.specs.declared.Time.{Time}
+use Rattle.i2c.specs.declared.types.Levels.{Levels}
 use Rattle.deadlines.specs.declared.Deadline.{Deadline}
 use Rattle.deadlines.specs.Theorems.Earliest.{moment-injective}
 use Rattle.calls.specs.declared.types.Timed.{Timed}
@@ -82,7 +83,7 @@ served-is {s} (Serves.timed {now = now} {t = t} r o p q) =
 served-is {s} (Serves.accelerations {now = now} {x = x} {y = y} {z = z} r o p q) =
     (p .1, answer-is s (Call.At now (Timed.Accelerations x y z)) (r .sensor) _ _ o q (p .1) (p .0) (silent-is s now (Timed.Accelerations x y z) _ (p .0) refl))
 served-is {s} (Serves.temperature {m = m} t o p q) =
-    let e = temperature-accepted (s .last) (interaction-deadline (s .sensor)) m in
+    let e = temperature-accepted (s .last) (interaction-deadline (s .sensor)) (s .sensor .kept .lines) m in
     (p, answer-is s (Call.Temperature m) t _ _ o q p (sym e) (sym (ap (λ (n : ℕ). T.unless-refused n Added.nothing Added.nothing) e)))
 served-is {s} (Serves.supply {now = now} {rail = rail} r o p q) =
     (p .1 .0, answer-is s (Call.At now (Timed.Supply rail)) (r .sensor) _ _ o q (p .1 .0) (p .0) (reported-is s now (Timed.Supply rail) _ (r .report) (p .0) (p .1 .1)))
@@ -91,7 +92,7 @@ served-is {s} (Serves.due {now = now} r o p q) =
 served-is {s} (Serves.due-lent {now = now} t r o p q) =
     (p .leaves, answer-is s (Call.At now Timed.Due) t _ _ o q (p .leaves) (p .answers) (reported-is s now Timed.Due _ (r .report) (p .answers) (p .reports)))
 served-is {s} (Serves.select {on = on} t o p q) =
-    let e = select-accepted (s .last) (interaction-deadline (s .sensor)) on in
+    let e = select-accepted (s .last) (interaction-deadline (s .sensor)) (s .sensor .kept .lines) on in
     (p, answer-is s (Call.Select on) t _ _ o q p (sym e) (sym (ap (λ (n : ℕ). T.unless-refused n Added.nothing Added.nothing) e)))
 served-is {s} (Serves.rising {now = now} {mosi = mosi} r o p q) =
     (p .1, answer-is s (Call.At now (Timed.Rising mosi)) (r .sensor) _ _ o q (p .1) (p .0) (silent-is s now (Timed.Rising mosi) _ (p .0) refl))
@@ -102,7 +103,7 @@ served-is {s} (Serves.pins {now = now} {before = before} {after = after} r o p q
 served-is {s} (Serves.pins-lent {now = now} {before = before} {after = after} t r o p q) =
     (p .leaves, answer-is s (Call.At now (Timed.Pins before after)) t _ _ o q (p .leaves) (p .answers) (silent-is s now (Timed.Pins before after) _ (p .answers) refl))
 served-is {s} (Serves.view {address = address} r o p q) =
-    (view-leaves s address, answer-is s (Call.View address) s _ _ o q (view-leaves s address) (sym (view-accepted (s .last) (interaction-deadline (s .sensor)) address)) p)
+    (view-leaves s address, answer-is s (Call.View address) s _ _ o q (view-leaves s address) (sym (view-accepted (s .last) (interaction-deadline (s .sensor)) (s .sensor .kept .lines) address)) p)
 served-is {s} (Serves.stored-image {now = now} {n = n} κs lent left r o h p q) =
     let e : T.number r ≡ number s (Call.StoredImage now n) = p .0 ∙ ap (λ (k : ℕ). number s (Call.StoredImage now k)) h in
     let b : left .now ≡ put-in (called s (Call.StoredImage now n) .adds) (lent .now) = p .1 ∙ ap (λ (k : ℕ). put-in (called s (Call.StoredImage now k) .adds) (lent .now)) h in
@@ -120,15 +121,16 @@ accepted-answer : (o : Outcome) × (T.number o ≡ 0)
 unfolding T.number
 accepted-answer = (Outcome.Accepted, refl)
 
-outcome-of : (last : Time) (d : Deadline) (c : Call) → (o : Outcome) × (T.number o ≡ T.refusal last d c)
+outcome-of : (last : Time) (d : Deadline) (l : Levels) (c : Call) → (o : Outcome) × (T.number o ≡ T.refusal last d l c)
 unfolding T.refusal T.first-found T.refusal-number
-outcome-of last d c =
+outcome-of last d l c =
     row-answer (T.wrong-length (facts c .bytes)) Refusal.ImageLength
     (row-answer (T.too-late (facts c .time)) Refusal.TimeLimit
     (row-answer (T.goes-back last (facts c .time)) Refusal.TimeBack
     (row-answer (T.out-of-range (facts c .axes)) Refusal.AxisRange
+    (row-answer (T.jumps l (facts c .lines)) Refusal.PinJump
     (row-answer (T.before-due d (facts c .kind) (facts c .time)) Refusal.DueFirst
-    (row-answer (T.beside-due d (facts c .kind) (facts c .time)) Refusal.NotDue accepted-answer)))))
+    (row-answer (T.beside-due d (facts c .kind) (facts c .time)) Refusal.NotDue accepted-answer))))))
 
 start-outcome : (now : Time) (n : ℕ) → (o : Outcome) × (T.number o ≡ T.start-refusal now n)
 unfolding T.start-refusal T.first-found T.refusal-number
@@ -165,7 +167,7 @@ report-of s now t = go (eqb (number s (Call.At now t)) 0)
 
 pub replies : (s : Bma150) (c : Call) → (t : Bma150) × (a : Answer) × Serves s c t a
 replies s (Call.At now t) =
-    let u = outcome-of (s .last) (interaction-deadline (s .sensor)) (Call.At now t) in
+    let u = outcome-of (s .last) (interaction-deadline (s .sensor)) (s .sensor .kept .lines) (Call.At now t) in
     let w = report-of s now t in
     let r : Reported = record { sensor = step s (Call.At now t); outcome = u .0; report = w .0 } in
     (r .sensor, replied (u .0) t (w .0) (seen (r .sensor)), Serves.timed r (seen (r .sensor)) (u .1, (refl, w .1)) (observed (r .sensor)))
@@ -179,7 +181,7 @@ replies s (Call.View address) =
     let v = peek (s .sensor) address in
     (s, accepted (of-view (view-value v)) (seen s), Serves.view v (seen s) (view-adds s address) (observed s))
 replies s (Call.StoredImage now n) =
-    let u = outcome-of (s .last) (interaction-deadline (s .sensor)) (Call.StoredImage now n) in
+    let u = outcome-of (s .last) (interaction-deadline (s .sensor)) (s .sensor .kept .lines) (Call.StoredImage now n) in
     let zeros : List ℕ = replicate n 0 in
     let e : length zeros ≡ n = length-replicate n 0 in
     let left = at-address (put-in (called s (Call.StoredImage now (length zeros)) .adds) zeros) in (
@@ -221,12 +223,12 @@ lent-too = record {
   due-says = λ 𝓤 H A memory run κs s t now r. refl;
   pins-says = λ 𝓤 H A memory run κs s t now before after r. refl;
   due = λ s now.
-      let u = outcome-of (s .last) (interaction-deadline (s .sensor)) (Call.At now Timed.Due) in
+      let u = outcome-of (s .last) (interaction-deadline (s .sensor)) (s .sensor .kept .lines) (Call.At now Timed.Due) in
       let w = report-of s now Timed.Due in
       let t = step s (Call.At now Timed.Due) in
       (t, record { outcome = u .0; report = w .0 }, seen t, record { answers = u .1; leaves = refl; reports = w .1 }, observed t);
   pins = λ s now before after.
-      let u = outcome-of (s .last) (interaction-deadline (s .sensor)) (Call.At now (Timed.Pins before after)) in
+      let u = outcome-of (s .last) (interaction-deadline (s .sensor)) (s .sensor .kept .lines) (Call.At now (Timed.Pins before after)) in
       let t = step s (Call.At now (Timed.Pins before after)) in
       (t, u .0, seen t, record { answers = u .1; leaves = refl }, observed t);
 }

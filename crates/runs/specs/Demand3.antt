@@ -21,6 +21,7 @@ use Rattle.calls.specs.declared.types.Timed.the-variants as Timed
 use Rattle.calls.specs.declared.types.Call.{Call}
 use Rattle.calls.specs.declared.types.Call.the-variants as Call
 use Rattle.calls.specs.Table.{refusal}
+use Rattle.sensor.specs.declared.types.Kept.{Kept}
 use Rattle.sensor.specs.Image.{cell-byte, new-kept}
 use Rattle.bma150.specs.declared.host.Bma150.{Bma150}
 use Rattle.bma150.specs.Called.{Added, start-number}
@@ -86,11 +87,13 @@ unfoldable pub moved : (last : Time) → Option Time → Time
 moved last none = last
 moved last (some now) = now
 
--- each number is that of 01's table, asked with the last accepted time and the next due that the run itself answered before
-abbrev pub Numbered : (last : Time) (due : Deadline) → List Call → List Answer → Type 0
-Numbered last due [] out = Unit {0}
-Numbered last due (c ∷ cs) [] = Unit {0}
-Numbered last due (c ∷ cs) (a ∷ out) = (a .number ≡ refusal last due c) × Numbered (if eqb (a .number) 0 then moved last (does c .time) else last) (a .next-due) cs out
+-- each number is that of 01's table, asked with the last accepted time, the next due that the run itself answered before, and the levels after the last accepted pin report
+abbrev pub Numbered : (last : Time) (due : Deadline) → Kept → List Call → List Answer → Type 0
+Numbered last due k [] out = Unit {0}
+Numbered last due k (c ∷ cs) [] = Unit {0}
+Numbered last due k (c ∷ cs) (a ∷ out) =
+    (a .number ≡ refusal last due (k .lines) c)
+    × Numbered (if eqb (a .number) 0 then moved last (does c .time) else last) (a .next-due) (if eqb (a .number) 0 then does c .keeps k else k) cs out
 
 -- ---- the demand
 
@@ -98,7 +101,7 @@ pub record Demand3 (m : Host) : Type 1 where
   -- after supply comes back from 0 mV the stored bytes are the write book's
   pub stored : {b : Start} {cs : List Call} {now : Time} {bytes : List ℕ} (r : Ran m b cs) → Fractions cs → (k : Back r now bytes)
       → bytes ≡ booked (opened b) (ending cs now (k .rail)) .cells
-  -- two that come back so at one moment with equal bytes, acceleration and temperature give the same answers to every further list
+  -- two that come back so at one moment with equal bytes, acceleration, temperature and levels of the last report give the same answers to every further list
   pub same : {b d : Start} {cs ds : List Call} {now : Time} {bytes : List ℕ} (r : Ran m b cs) (q : Ran m d ds) → Fractions cs → Fractions ds → (k : Back r now bytes) (j : Back q now bytes)
       → last-kept new-kept (taken cs (r .out)) ≡ last-kept new-kept (taken ds (q .out))
       → (further : List Call) {x y : m .Sensor} {f g : List Answer} → Run m (k .back) further f x → Run m (j .back) further g y → f ≡ g
@@ -109,7 +112,7 @@ pub record Demand3 (m : Host) : Type 1 where
   pub goes-on : (s : m .Sensor) (further : List Call) → (f : List Answer) × (x : m .Sensor) × Run m s further f x
   -- refusals follow 01's table: of a start, and of every call of a run
   pub start-refused : {b : Start} {s : m .Sensor} {a : Answer} → m .begins b s a → a .number ≡ start-number (b .time) (b .image)
-  pub refused : {b : Start} {cs : List Call} (r : Ran m b cs) → Numbered (b .time) (r .start .next-due) cs (r .out)
+  pub refused : {b : Start} {cs : List Call} (r : Ran m b cs) → Numbered (b .time) (r .start .next-due) new-kept cs (r .out)
 
 -- ---- what is delivered
 

@@ -1,6 +1,6 @@
 -- The stored image, the working image, and a sensor at its start.
 use Prim.Native.Nat.{ℕ, _-_}
-use mathlib.Core.Bool.{false}
+use mathlib.Core.Bool.{true, false}
 use mathlib.Core.List.{List, [], _∷_}
 use lib.ListN.{getD, set, replicate}
 use lib.Seq.{paste}
@@ -72,9 +72,12 @@ copy-image s = configured s (image-copied (s .registers) (s .nonvolatile))
 abbrev pub reset-registers : Registers
 reset-registers = set (set (replicate 62 0) chip-id 2) version 0x10
 
--- the start's acceleration 0, 0, 1000000 and temperature 20000 (the Rust's `STILL` and `new`)
+-- the start's acceleration 0, 0, 1000000 and temperature 20000 (the Rust's `STILL` and `new`), both I2C lines high
 abbrev pub new-kept : Kept
-new-kept = record { input = record { x = pos 0; y = pos 0; z = pos 1000000; «temperature_millicelsius» = pos 20000 } }
+new-kept = record {
+  input = record { x = pos 0; y = pos 0; z = pos 1000000; «temperature_millicelsius» = pos 20000 };
+  lines = record { scl = true; sda = true };
+}
 
 abbrev pub fresh-sampling : (now : Time) → Sampling
 fresh-sampling now = record { filter = made 6; filtered = replicate 3 (pos 0); clock = Clock.started now; asleep = false; «auto_cycles» = 0; test = Test.Off; «data_ready» = false }
@@ -107,7 +110,7 @@ from-nonvolatile now image = copy-image (blank now image new-kept)
 abbrev pub stock : Image
 stock = 3 ∷ 20 ∷ 150 ∷ 160 ∷ 150 ∷ 0 ∷ 0 ∷ 162 ∷ 13 ∷ 14 ∷ 128 ∷ 0 ∷ 0 ∷ 0 ∷ 0 ∷ 128 ∷ 128 ∷ 128 ∷ 0 ∷ []
 
--- 01: having met 0 mV the sensor returns as after a start from its stored bytes, with acceleration and temperature kept and serial pins dead for 3 ms; a function of the moment, the stored bytes and what is kept
+-- 01: having met 0 mV the sensor returns as after a start from its stored bytes, with what is kept and serial pins dead for 3 ms; a function of the moment, the stored bytes and what is kept
 abbrev pub powered : (now : Time) (image : Image) (kept : Kept) → Sensor
 powered now image kept =
     let s = copy-image (blank now image kept) in

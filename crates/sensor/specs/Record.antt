@@ -6,6 +6,7 @@ use lib.ListN.{set}
 use Rattle.laws.specs.Notation.{Byte, Address, Registers}
 use Rattle.filter.specs.declared.Filter.{Filter}
 use Rattle.interrupts.specs.declared.Interrupts.{Interrupts}
+use Rattle.i2c.specs.declared.types.Levels.{Levels}
 use Rattle.i2c.specs.declared.types.State.{State}
 use Rattle.spi.specs.declared.types.Frame.{Frame}
 use Rattle.reads.specs.declared.Reads.{Reads}
@@ -62,7 +63,14 @@ with-supply s x = record { registers = s .registers; nonvolatile = s .nonvolatil
 
 -- what is kept, with another acceleration and temperature
 abbrev pub with-input : Kept → Input → Kept
-with-input k input = record { input = input }
+with-input k input = record { input = input; lines = k .lines }
+
+-- and with other levels after the last accepted pin report
+abbrev pub lines-kept : Kept → Levels → Kept
+lines-kept k lines = record { input = k .input; lines = lines }
+
+abbrev pub with-lines : Sensor → Levels → Sensor
+with-lines s lines = with-kept s (lines-kept (s .kept) lines)
 
 -- the registers with one byte replaced
 abbrev pub with-byte : (registers : Registers) (address : Address) (value : Byte) → Registers

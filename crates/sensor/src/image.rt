@@ -9,6 +9,7 @@ use crate::types::Writing;
 use deadlines::Deadline;
 use deadlines::Deadlines;
 use filter::Filter;
+use i2c::types::Levels;
 use i2c::types::State;
 use interrupts::Interrupts;
 use reads::Reads;
@@ -141,7 +142,7 @@ fn acquiring(now: Time) -> Deadlines
     d.with_wake(Deadline::At(now.plus(length)))
 }
 
-// What a start keeps: 1 g on z, 20 degrees.
+// What a start keeps: 1 g on z, 20 degrees, both lines high.
 fn new_kept() -> Kept
     ensures { λ r. ⌜ r ≡ Im.new-kept ⌝ }
 {
@@ -151,7 +152,14 @@ fn new_kept() -> Kept
         z: 1000000,
         temperature_millicelsius: 20000,
     };
-    Kept { input: input }
+    let lines = Levels {
+        scl: true,
+        sda: true,
+    };
+    Kept {
+        input: input,
+        lines: lines,
+    }
 }
 
 fn blank(now: Time, image: [u8; 19], kept: Kept) -> Sensor

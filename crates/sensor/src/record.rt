@@ -4,6 +4,7 @@ ghost use Rattle.sensor.specs.Record as Rec;
 ghost use Rattle.registers.specs.Map as Map;
 use crate::types::Operation;
 use crate::types::Sensor;
+use i2c::types::Levels;
 use registers::access::Gate;
 use registers::fields::CONTROL;
 use registers::fields::OPERATION;
@@ -61,6 +62,25 @@ impl Sensor {
         let changed = with_byte(registers, address, value);
         let mut s = self;
         s.registers = changed;
+        s
+    }
+
+    // The levels after the last accepted pin report.
+    pub fn lines(self) -> Levels
+        ensures { λ r. ⌜ r ≡ self .kept .lines ⌝ }
+    {
+        let k = self.kept;
+        k.lines
+    }
+
+    // The levels that the next pin report must begin with.
+    pub fn with_lines(self, lines: Levels) -> Sensor
+        ensures { λ r. ⌜ r ≡ Rec.with-lines self lines ⌝ }
+    {
+        let mut k = self.kept;
+        k.lines = lines;
+        let mut s = self;
+        s.kept = k;
         s
     }
 

@@ -1,6 +1,7 @@
 // The sensor record. Names are the Rust's (devices/bma150.rs).
 use deadlines::Deadline;
 use deadlines::Deadlines;
+use i2c::types::Levels;
 use i2c::types::State;
 use interrupts::Interrupts;
 use nv::WriteCycle;
@@ -26,9 +27,11 @@ pub struct Supply {
     pub cold: bool,
 }
 
-// What a loss of supply leaves alone beside the stored bytes: acceleration and temperature. A start sets it anew.
+// What a loss of supply leaves alone beside the stored bytes: acceleration and temperature, and the levels of the I2C lines
+// after the last accepted pin report. A start sets it anew.
 pub struct Kept {
     pub input: Input,
+    pub lines: Levels,
 }
 
 pub struct Sensor {

@@ -159,7 +159,7 @@ impl Generator {
             .random
             .pick(&[Setup::Always, Setup::Changed, Setup::WithRise]);
         let mut plan = Transfer {
-            lines: self.lines,
+            lines: self.model.lines(),
             setup,
             moves: Vec::new(),
         };
@@ -195,7 +195,7 @@ impl Generator {
 
     /// Reports of lines that stay, or move without a rule.
     fn loose_reports(&mut self, count: u64) -> Vec<Move> {
-        let [mut clock, mut data] = self.lines;
+        let [mut clock, mut data] = self.model.lines();
         let mut moves = Vec::new();
         for _ in 0..count {
             match self.random.below(4) {
@@ -495,7 +495,7 @@ impl Generator {
 
     /// Each move with what the other bus sees of it, before or after it.
     fn doubled(&mut self, moves: Vec<Move>) -> Vec<Move> {
-        let [mut clock, mut data] = self.lines;
+        let [mut clock, mut data] = self.model.lines();
         let mut doubled = Vec::new();
         for step in moves {
             let other = match step {

@@ -33,7 +33,8 @@ impl Generator {
     }
 
     /// Report new I2C levels. On a wired bus the data line is low while the
-    /// sensor holds it.
+    /// sensor holds it; that it pulls the line is mostly a report of its own,
+    /// and else comes with the next one.
     pub(super) fn pins(&mut self, clock: bool, data: bool) {
         if !self.goes_on() {
             return;
@@ -44,15 +45,23 @@ impl Generator {
             self.unchanged();
         }
         let data = data && !self.held_low();
-        let [old_clock, old_data] = self.lines;
-        let levels = [old_clock, old_data, clock, data]
-            .into_iter()
-            .fold(0, |levels, level| levels << 1 | u8::from(level));
+        let levels = self.following(clock, data);
         self.report(levels);
         if self.random.below(400) < self.profile.stutter {
+            self.report(levels); // It jumps, if the lines have moved.
+        }
+        if data && !clock && self.held_low() && !self.random.once_in(4) {
+            let levels = self.following(clock, false);
             self.report(levels);
         }
-        self.lines = [clock, data && !self.held_low()];
+    }
+
+    /// A report of these levels that follows on.
+    fn following(&self, clock: bool, data: bool) -> u8 {
+        let [old_clock, old_data] = self.model.lines();
+        [old_clock, old_data, clock, data]
+            .into_iter()
+            .fold(0, |levels, level| levels << 1 | u8::from(level))
     }
 
     fn held_low(&self) -> bool {
@@ -61,8 +70,9 @@ impl Generator {
 
     /// A report of levels that have not changed.
     fn unchanged(&mut self) {
-        let [clock, data] = self.lines.map(u8::from);
-        self.report((clock << 1 | data) * 5);
+        let [clock, data] = self.model.lines();
+        let levels = self.following(clock, data);
+        self.report(levels);
     }
 
     fn report(&mut self, levels: u8) {
@@ -79,14 +89,14 @@ impl Generator {
     }
 
     fn start_condition(&mut self) {
-        let [clock, data] = self.lines;
+        let [clock, data] = self.model.lines();
         if !data {
             if clock {
                 self.pins(false, false);
             }
             self.pins(false, true);
         }
-        if !self.lines[0] {
+        if !self.model.lines()[0] {
             self.pins(true, true);
         }
         self.pins(true, false);
@@ -94,10 +104,11 @@ impl Generator {
     }
 
     fn stop_condition(&mut self) {
-        if self.lines[0] {
-            self.pins(false, self.lines[1]);
+        let [clock, data] = self.model.lines();
+        if clock {
+            self.pins(false, data);
         }
-        if self.lines[1] {
+        if self.model.lines()[1] {
             self.pins(false, false);
         }
         self.pins(true, false);
@@ -107,7 +118,7 @@ impl Generator {
     /// One clock pulse, with the data level either set beforehand or with
     /// the rise.
     fn pulse(&mut self, data: bool) {
-        if self.lines[1] != data && self.random.once_in(4) {
+        if self.model.lines()[1] != data && self.random.once_in(4) {
             self.pins(false, data);
         }
         self.pins(true, data);
@@ -202,10 +213,14 @@ impl Generator {
     pub(super) fn i2c_noise(&mut self) {
         for _ in 0..self.random.within(3, 24) {
             self.tick();
-            let levels = self.random.below(16) as u8;
+            let levels = if self.random.once_in(16) {
+                self.random.below(16) as u8
+            } else {
+                let (clock, data) = (self.random.bool(), self.random.bool());
+                self.following(clock, data)
+            };
             self.report(levels);
         }
-        self.lines = [self.random.bool(), self.random.bool()];
     }
 
     /// A clock edge of a transfer, at its time.

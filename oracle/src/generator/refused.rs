@@ -5,10 +5,11 @@ impl Generator {
     /// Put one refused command, of one of the ways that are open now.
     pub(super) fn refused(&mut self) {
         for _ in 0..4 {
-            let command = match self.random.below(4) {
+            let command = match self.random.below(5) {
                 0 => self.too_early(),
                 1 => self.before_due(),
                 2 => self.not_due(),
+                3 => self.jumping(),
                 _ => self.out_of_range(),
             };
             if let Some(command) = command {
@@ -95,6 +96,29 @@ impl Generator {
         })
     }
 
+    /// A pin report that does not follow on, in one line or both.
+    fn jumping(&mut self) -> Option<Command> {
+        let other = self.random.within(1, 3) as u8;
+        let levels = self.any_following() ^ other << 2;
+        let last = self.model.last().raw();
+        let at = match self.random.below(6) {
+            0 => last.saturating_sub(1), // Too early as well.
+            1 => self.model.next_due().map_or(last, Time::raw), // What is due comes first, too.
+            2 => last + self.length(),
+            _ => self.now.raw(),
+        };
+        Some(Command::Pins {
+            at: Time::from_raw(at.min(LAST)),
+            levels,
+        })
+    }
+
+    /// A pin report that follows on, to any levels.
+    fn any_following(&mut self) -> u8 {
+        let [clock, data] = self.model.lines().map(u8::from);
+        clock << 3 | data << 2 | self.random.below(4) as u8
+    }
+
     /// A call with a time; the due and stored-image calls only if `all`.
     fn any_timed(&mut self, at: Time, all: bool) -> Command {
         match self.random.below(if all { 7 } else { 5 }) {
@@ -117,7 +141,7 @@ impl Generator {
             3 => Command::Falling { at },
             4 => Command::Pins {
                 at,
-                levels: self.random.below(16) as u8,
+                levels: self.any_following(),
             },
             5 => Command::Due { at },
             _ => Command::StoredImage { at },

@@ -73,8 +73,8 @@ module _ (s : Bma150) (now : Time) where
 module _ (s : Bma150) (address : ℕ) where
   pub view-leaves : s ≡ called s (Call.View address) .sensor
   unfolding leaves unless-refused
-  view-leaves = rw (view-accepted (s .last) (interaction-deadline (s .sensor)) address)
+  view-leaves = rw (view-accepted (s .last) (interaction-deadline (s .sensor)) (s .sensor .kept .lines) address)
 
   pub view-adds : of-view (view-value (peek (s .sensor) address)) ≡ called s (Call.View address) .adds
   unfolding adds unless-refused
-  view-adds = rw (view-accepted (s .last) (interaction-deadline (s .sensor)) address)
+  view-adds = rw (view-accepted (s .last) (interaction-deadline (s .sensor)) (s .sensor .kept .lines) address)

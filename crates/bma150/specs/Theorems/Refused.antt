@@ -23,13 +23,13 @@ pub record Exactly (P Q : Type 0) : Type 0 where
 
 -- the faults of 01's table that a call of this sensor can have, in 01's order
 abbrev pub faults-of : Bma150 → Call → List Fault
-faults-of s c = faults (s .last) (interaction-deadline (s .sensor)) c
+faults-of s c = faults (s .last) (interaction-deadline (s .sensor)) (s .sensor .kept .lines) c
 
 -- a call answers n exactly if n is the number of the first fault that is there, or 0 where there is none
 pub refused-exactly-if : (s : Bma150) (c : Call) (n : ℕ) → Exactly (called s c .number ≡ n) (First (faults-of s c) n)
 refused-exactly-if s c n = record {
-  only = λ e. subst (λ (k : ℕ). First (faults-of s c) k) e (refused-only (s .last) (interaction-deadline (s .sensor)) c);
-  whole = refused-whole (s .last) (interaction-deadline (s .sensor)) c n;
+  only = λ e. subst (λ (k : ℕ). First (faults-of s c) k) e (refused-only (s .last) (interaction-deadline (s .sensor)) (s .sensor .kept .lines) c);
+  whole = refused-whole (s .last) (interaction-deadline (s .sensor)) (s .sensor .kept .lines) c n;
 }
 
 pub start-refused-exactly-if : (now : Time) (image : List ℕ) (n : ℕ) → Exactly (start-number now image ≡ n) (First (start-faults now (length image)) n)

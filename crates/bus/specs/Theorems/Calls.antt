@@ -163,7 +163,9 @@ module _ (s : Sensor) (now : Time) (h : Heard s) where
   timed-heard Timed.Due n = heard due-left h
   timed-heard (Timed.Rising mosi) n = heard (rising-left mosi) h
   timed-heard Timed.Falling n = heard falling-left h
-  timed-heard (Timed.Pins before after) n = report-heard s (edge before after) now h n
+  timed-heard (Timed.Pins before after) n =
+      let k = report-heard s (edge before after) now h n in
+      record { on = k .on; ready = k .ready; unselected = k .unselected; at-rest = k .at-rest; loud = k .loud }
 
   timed-unheard : (t : Timed) → timed-ends s now t ≡ true → Heard (effect (caught s now) now t .sensor) → ⊥
   unfolding effect timed-ends

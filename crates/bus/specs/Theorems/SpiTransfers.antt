@@ -197,7 +197,7 @@ withheld-floats s r e = rw (e, sends)
 -- ---- select: it is never refused; a change drops the frame, select 1 while off is forgotten
 
 pub select-accepted : (s : Bma150) (on : Bool) → accepts s (Call.Select on) ≡ true
-select-accepted s on = ap (λ (n : ℕ). eqb n 0) (Left.select-accepted (s .last) (interaction-deadline (s .sensor)) on)
+select-accepted s on = ap (λ (n : ℕ). eqb n 0) (Left.select-accepted (s .last) (interaction-deadline (s .sensor)) (s .sensor .kept .lines) on)
 
 module _ (s : Bma150) where
   selects : (on : Bool) → step s (Call.Select on) .sensor ≡ set-selected (s .sensor) on

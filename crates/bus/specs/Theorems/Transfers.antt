@@ -27,7 +27,7 @@ use Rattle.reads.specs.Reads.{is-shadowed, prepared}
 use Rattle.sensor.specs.declared.types.View.{View}
 use Rattle.sensor.specs.declared.types.View.the-variants as View
 use Rattle.sensor.specs.declared.types.Sensor.{Sensor}
-use Rattle.sensor.specs.Record.{with-i2c, serial-not-ready, is-quiet, four-wire, gate}
+use Rattle.sensor.specs.Record.{with-lines, with-i2c, serial-not-ready, is-quiet, four-wire, gate}
 use Rattle.sensor.specs.RegisterReads.{peek, fetched}
 use Rattle.serial.specs.I2cPins.{ones-for, acted}
 use Rattle.serial.specs.Outputs.{i2c-holds, spi-drives}
@@ -107,14 +107,14 @@ pin-shows s h = rw (no-drive s h, and-none (not (four-wire s)))
     and-none true = refl
     and-none false = refl
 
--- ---- what is done: the sensor that meets a report, with the sample of its moment where it uses a value, gets what the engine asks for
+-- ---- what is done: the sensor that meets a report, with the sample of its moment where it uses a value, gets what the engine asks for, and remembers the levels after it
 
 pub report-through-call : (s : Bma150) (now : Time) (before after : Levels) → let c = Call.At now (Timed.Pins before after) in let e = edge before after in
     accepts s c ≡ true → Heard (s .sensor)
-    → step s c .sensor ≡ acted (deed (target-of (s .sensor)) e) (with-i2c (meets (s .sensor) e now) (stepped-to (s .sensor) e)) now
+    → step s c .sensor ≡ with-lines (acted (deed (target-of (s .sensor)) e) (with-i2c (meets (s .sensor) e now) (stepped-to (s .sensor) e)) now) after
 unfolding leaves effect
 report-through-call s now before after e h =
-    ap (λ (t : Bma150). t .sensor) (accepted-leaves s (Call.At now (Timed.Pins before after)) e) ∙ report-does (s .sensor) (edge before after) now h
+    ap (λ (t : Bma150). t .sensor) (accepted-leaves s (Call.At now (Timed.Pins before after)) e) ∙ ap (λ (t : Sensor). with-lines t after) (report-does (s .sensor) (edge before after) now h)
 
 -- ---- what `peek` withholds reads as ones (01), and asleep that is every register
 

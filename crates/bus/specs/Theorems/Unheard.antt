@@ -18,7 +18,7 @@ use Rattle.calls.specs.declared.types.Timed.the-variants as Timed
 use Rattle.calls.specs.declared.types.Call.{Call}
 use Rattle.calls.specs.declared.types.Call.the-variants as Call
 use Rattle.sensor.specs.declared.types.Sensor.{Sensor}
-use Rattle.sensor.specs.Record.{with-i2c, is-off, serial-not-ready, is-quiet}
+use Rattle.sensor.specs.Record.{with-lines, with-i2c, is-off, serial-not-ready, is-quiet}
 use Rattle.samples.specs.Samples.{sync-local-until}
 use Rattle.serial.specs.I2cPins.{i2c-listens, ones-for, acted, i2c-pins, pins-synced}
 use Rattle.serial.specs.Outputs.{i2c-holds}
@@ -65,25 +65,23 @@ module _ (s : Bma150) (now : Time) (before after : Levels) where
   abbrev u : Sensor
   u = caught (s .sensor) now
 
-  left : accepts s report ≡ true → step s report .sensor ≡ i2c-pins (pins-synced u e now) e now
+  left : accepts s report ≡ true → step s report .sensor ≡ with-lines (i2c-pins (pins-synced u e now) e now) after
   unfolding leaves effect
   left a = ap (λ (t : Bma150). t .sensor) (accepted-leaves s report a)
 
-  -- selected, off or dead: the engine waits for START, and all else of the sensor is as the samples before leave it, the SPI frame too
-  pub deaf-report : accepts s report ≡ true → i2c-listens (s .sensor) ≡ false → step s report .sensor ≡ with-i2c u (E.aborted (s .sensor .i2c))
+  -- selected, off or dead: the engine waits for START, and all else of the sensor but the levels of the last report is as the samples before leave it, the SPI frame too
+  pub deaf-report : accepts s report ≡ true → i2c-listens (s .sensor) ≡ false → step s report .sensor ≡ with-lines (with-i2c u (E.aborted (s .sensor .i2c))) after
   unfolding i2c-pins pins-synced
   deaf-report a d =
       let l = listens-same (s .sensor) now ∙ d in
       let synced : pins-synced u e now ≡ u = rw l in
       let is : i2c-pins u e now ≡ with-i2c u (E.aborted (u .i2c)) = rw l in
       left a
-      ∙ ap (λ (t : Sensor). i2c-pins t e now) synced
-      ∙ is
-      ∙ ap (λ (t : State). with-i2c u (E.aborted t)) (engine-same (s .sensor) now)
+      ∙ ap (λ (t : Sensor). with-lines t after) (ap (λ (t : Sensor). i2c-pins t e now) synced ∙ is ∙ ap (λ (t : State). with-i2c u (E.aborted t)) (engine-same (s .sensor) now))
 
   -- quiet: what the engine does when quiet
   quiet-report : accepts s report ≡ true → i2c-listens (s .sensor) ≡ true → is-quiet (s .sensor) ≡ true
-      → let t = E.step (s .sensor .i2c) e true (ones-for (s .sensor .frame .tx)) in step s report .sensor ≡ acted (t .action) (with-i2c u (t .state)) now
+      → let t = E.step (s .sensor .i2c) e true (ones-for (s .sensor .frame .tx)) in step s report .sensor ≡ with-lines (acted (t .action) (with-i2c u (t .state)) now) after
   unfolding i2c-pins pins-synced
   quiet-report a l q =
       let listening = listens-same (s .sensor) now ∙ l in
@@ -91,8 +89,8 @@ module _ (s : Bma150) (now : Time) (before after : Levels) where
       let t = E.step (u .i2c) e true (ones-for (u .frame .tx)) in
       let is : i2c-pins (pins-synced u e now) e now ≡ acted (t .action) (with-i2c u (t .state)) now = rw (listening, quiet, and-false (E.consumes-conversion (u .i2c) e), listening, quiet) in
       left a
-      ∙ is
-      ∙ ap (λ (t : Step). acted (t .action) (with-i2c u (t .state)) now)
+      ∙ ap (λ (t : Sensor). with-lines t after) is
+      ∙ ap (λ (t : Step). with-lines (acted (t .action) (with-i2c u (t .state)) now) after)
       (ap (λ (x : State). E.step x e true (ones-for (u .frame .tx))) (engine-same (s .sensor) now)
       ∙ ap (λ (n : ℕ). E.step (s .sensor .i2c) e true n) (sent-same (s .sensor) now))
     where
@@ -102,17 +100,17 @@ module _ (s : Bma150) (now : Time) (before after : Levels) where
 
   -- quiet, and not in an acknowledge: the engine waits for START, which it does not hear; nothing is written or fetched
   pub quiet-silent : accepts s report ≡ true → i2c-listens (s .sensor) ≡ true → is-quiet (s .sensor) ≡ true → E.acknowledging (s .sensor .i2c .phase) ≡ false
-      → step s report .sensor ≡ acted (if is-condition e then A.Drop else A.Nothing) (with-i2c u (E.aborted (s .sensor .i2c))) now
+      → step s report .sensor ≡ with-lines (acted (if is-condition e then A.Drop else A.Nothing) (with-i2c u (E.aborted (s .sensor .i2c))) now) after
   quiet-silent a l q k =
       quiet-report a l q
-      ∙ ap (λ (t : Step). acted (t .action) (with-i2c u (t .state)) now) (quiet-aborts (s .sensor .i2c) e (ones-for (s .sensor .frame .tx)) k)
+      ∙ ap (λ (t : Step). with-lines (acted (t .action) (with-i2c u (t .state)) now) after) (quiet-aborts (s .sensor .i2c) e (ones-for (s .sensor .frame .tx)) k)
 
   -- quiet, START and STOP: also an acknowledge is dropped
   pub quiet-hears-no-start : accepts s report ≡ true → i2c-listens (s .sensor) ≡ true → is-quiet (s .sensor) ≡ true → is-condition e ≡ true
-      → step s report .sensor ≡ acted A.Drop (with-i2c u (E.aborted (s .sensor .i2c))) now
+      → step s report .sensor ≡ with-lines (acted A.Drop (with-i2c u (E.aborted (s .sensor .i2c))) now) after
   quiet-hears-no-start a l q k =
       quiet-report a l q
-      ∙ ap (λ (t : Step). acted (t .action) (with-i2c u (t .state)) now) (quiet-conditions (s .sensor .i2c) e (ones-for (s .sensor .frame .tx)) k)
+      ∙ ap (λ (t : Step). with-lines (acted (t .action) (with-i2c u (t .state)) now) after) (quiet-conditions (s .sensor .i2c) e (ones-for (s .sensor .frame .tx)) k)
 
 -- ---- the pin
 

@@ -2,7 +2,7 @@
 use Prim.Native.Nat.{ℕ, _^_, _≤_, _<_}
 use native.Mathlib.Omega.{arith}
 use mathlib.Core.Path.{_≡_, refl, sym, ap, _∙_}
-use mathlib.Core.Bool.{Bool, true, false, not, _||_}
+use mathlib.Core.Bool.{Bool, true, false, Bool·beq, not, _&&_, _||_}
 use mathlib.Core.Logic.{_⊎_, inl, inr}
 use mathlib.Core.List.{List, [], _∷_}
 use lib.Dec.{ltb, eqb}
@@ -10,6 +10,7 @@ use lib.IntN.{ℤ, pos, negsuc, natAbs}
 use borrow.Author.Tests.{leb-true, le-leb, ltb-true, lt-ltb, eqb-true, eq-eqb, ne-eqb}
 use Rattle.time.specs.declared.Time.{Time}
 use Rattle.time.specs.Time.{ticks}
+use Rattle.i2c.specs.declared.types.Levels.{Levels}
 use Rattle.deadlines.specs.declared.Deadline.{Deadline}
 use Rattle.deadlines.specs.declared.Deadline.the-variants.{At, Never}
 use Rattle.deadlines.specs.Deadlines.{is-at, is-by}
@@ -18,7 +19,8 @@ use Rattle.calls.specs.declared.types.Timed.the-variants as Timed
 use Rattle.calls.specs.declared.types.Call.{Call}
 use Rattle.calls.specs.declared.types.Call.the-variants as Call
 use Rattle.calls.specs.Facts.{timed-facts, facts, bringing}
-use Rattle.calls.specs.Table.{wrong-length, beyond, any-beyond, out-of-range, late, too-late, goes-back, due-by, due-at, before-due, beside-due, rows, start-rows, refusal, start-refusal}
+use Rattle.calls.specs.Table.{wrong-length, beyond, any-beyond, out-of-range, same-levels, jumps, late, too-late, goes-back, due-by, due-at, before-due, beside-due, rows, start-rows, refusal, start-refusal}
+use Rattle.calls.specs.Theorems.Left.{clear}
 use Rattle.calls.specs.Theorems.Found.{never, Fault, fault, First, Tells, Finds, found-first, first-is-found}
 
 -- ---- the faults of 01's table, for each call by its own arguments
@@ -61,6 +63,15 @@ AxisBeyond (Timed.Rising mosi) = ⊥
 AxisBeyond Timed.Falling = ⊥
 AxisBeyond (Timed.Pins before after) = ⊥
 
+-- 8: the levels before a pin report are not those after the last accepted one
+abbrev pub Jumps : (lines : Levels) → Timed → Type 0
+Jumps lines (Timed.Accelerations x y z) = ⊥
+Jumps lines (Timed.Supply rail) = ⊥
+Jumps lines Timed.Due = ⊥
+Jumps lines (Timed.Rising mosi) = ⊥
+Jumps lines Timed.Falling = ⊥
+Jumps lines (Timed.Pins before after) = before ≡ lines → ⊥
+
 abbrev pub DueFirst : Deadline → Time → Timed → Type 0
 DueFirst due now (Timed.Accelerations x y z) = DueBy due now
 DueFirst due now (Timed.Supply rail) = DueBy due now
@@ -85,12 +96,13 @@ IsTimed (Call.View address) So = ⊥
 IsTimed (Call.StoredImage now n) So = ⊥
 
 -- 01's table, in its order
-abbrev pub faults : Time → Deadline → Call → List Fault
-faults last due c =
+abbrev pub faults : Time → Deadline → Levels → Call → List Fault
+faults last due lines c =
     fault 1 (WrongLength c)
     ∷ fault 3 (HasTime c (λ now. 2 ^ 32 ≤ now .0))
     ∷ fault 4 (HasTime c (λ now. ticks now < ticks last))
     ∷ fault 2 (IsTimed c (λ now t. AxisBeyond t))
+    ∷ fault 8 (IsTimed c (λ now t. Jumps lines t))
     ∷ fault 5 (IsTimed c (λ now t. DueFirst due now t))
     ∷ fault 6 (IsTimed c (λ now t. NotDue due now t))
     ∷ []
@@ -194,47 +206,80 @@ not-at-tells due now = record { only = not-only (is-at due now) (at-whole due no
 axes-tell : (x y z : ℤ) → Tells (Beyond x ⊎ (Beyond y ⊎ Beyond z)) (any-beyond x y z)
 axes-tell x y z = record { only = axes-only x y z; whole = axes-whole x y z }
 
-module _ (last : Time) (due : Deadline) where
-  abbrev Found : Call → Type 0
-  Found c = Finds (record { last = last; due = due; call = facts c }) rows (faults last due c)
+-- two levels that are the same, line by line
+same-lines : (lines before : Levels) → (lines .scl ≡ before .scl) → (lines .sda ≡ before .sda) → before ≡ lines
+same-lines lines before p q =
+    sym (ap {B = Levels} (λ (x : Bool). record { scl = x; sda = lines .sda }) p ∙ ap {B = Levels} (λ (x : Bool). record { scl = before .scl; sda = x }) q)
 
-  -- what the six tests find of a call
+same-only : (lines before : Levels) → same-levels lines before ≡ true → before ≡ lines
+same-only lines before p = go (lines .scl) (before .scl) (lines .sda) (before .sda) refl refl refl refl p
+  where
+    go : (a b c d : Bool) → lines .scl ≡ a → before .scl ≡ b → lines .sda ≡ c → before .sda ≡ d → (Bool·beq a b && Bool·beq c d) ≡ true → before ≡ lines
+    go true true true true e f g h p = same-lines lines before (e ∙ sym f) (g ∙ sym h)
+    go true true true false e f g h p = never p
+    go true true false true e f g h p = never p
+    go true true false false e f g h p = same-lines lines before (e ∙ sym f) (g ∙ sym h)
+    go true false c d e f g h p = never p
+    go false true c d e f g h p = never p
+    go false false true true e f g h p = same-lines lines before (e ∙ sym f) (g ∙ sym h)
+    go false false true false e f g h p = never p
+    go false false false true e f g h p = never p
+    go false false false false e f g h p = same-lines lines before (e ∙ sym f) (g ∙ sym h)
+
+level-same : (b : Bool) → Bool·beq b b ≡ true
+level-same true = refl
+level-same false = refl
+
+pub same-whole : (lines before : Levels) → before ≡ lines → same-levels lines before ≡ true
+same-whole lines before e =
+    ap (λ (l : Levels). same-levels lines l) e ∙ rw (level-same (lines .scl), level-same (lines .sda))
+
+jump-tells : (lines before : Levels) → Tells (before ≡ lines → ⊥) (not (same-levels lines before))
+jump-tells lines before =
+    record { only = not-only (same-levels lines before) (same-whole lines before); whole = not-whole (same-levels lines before) (same-only lines before) }
+
+module _ (last : Time) (due : Deadline) (lines : Levels) where
+  abbrev Found : Call → Type 0
+  Found c = Finds (record { last = last; due = due; lines = lines; call = facts c }) rows (faults last due lines c)
+
+  -- what the seven tests find of a call
   found : (c : Call)
       → Tells (WrongLength c) (wrong-length (facts c .bytes))
       → Tells (HasTime c (λ now. 2 ^ 32 ≤ now .0)) (too-late (facts c .time))
       → Tells (HasTime c (λ now. ticks now < ticks last)) (goes-back last (facts c .time))
       → Tells (IsTimed c (λ now t. AxisBeyond t)) (out-of-range (facts c .axes))
+      → Tells (IsTimed c (λ now t. Jumps lines t)) (jumps lines (facts c .lines))
       → Tells (IsTimed c (λ now t. DueFirst due now t)) (before-due due (facts c .kind) (facts c .time))
       → Tells (IsTimed c (λ now t. NotDue due now t)) (beside-due due (facts c .kind) (facts c .time))
       → Found c
-  found c length limit back axis due-first not-due = ((refl, length), ((refl, limit), ((refl, back), ((refl, axis), ((refl, due-first), ((refl, not-due), tt))))))
+  found c length limit back axis jump due-first not-due = ((refl, length), ((refl, limit), ((refl, back), ((refl, axis), ((refl, jump), ((refl, due-first), ((refl, not-due), tt)))))))
 
   timed-found : (now : Time) (t : Timed) → Found (Call.At now t)
-  unfolding facts timed-facts wrong-length too-late goes-back out-of-range before-due beside-due due-by due-at
-  timed-found now (Timed.Accelerations x y z) = found (Call.At now (Timed.Accelerations x y z)) never-tells (late-tells now) (back-tells last now) (axes-tell x y z) (by-tells due now) never-tells
-  timed-found now (Timed.Supply rail) = found (Call.At now (Timed.Supply rail)) never-tells (late-tells now) (back-tells last now) never-tells (by-tells due now) never-tells
-  timed-found now Timed.Due = found (Call.At now Timed.Due) never-tells (late-tells now) (back-tells last now) never-tells never-tells (not-at-tells due now)
-  timed-found now (Timed.Rising mosi) = found (Call.At now (Timed.Rising mosi)) never-tells (late-tells now) (back-tells last now) never-tells (by-tells due now) never-tells
-  timed-found now Timed.Falling = found (Call.At now Timed.Falling) never-tells (late-tells now) (back-tells last now) never-tells (by-tells due now) never-tells
-  timed-found now (Timed.Pins before after) = found (Call.At now (Timed.Pins before after)) never-tells (late-tells now) (back-tells last now) never-tells (by-tells due now) never-tells
+  unfolding facts timed-facts wrong-length too-late goes-back out-of-range jumps before-due beside-due due-by due-at
+  timed-found now (Timed.Accelerations x y z) = found (Call.At now (Timed.Accelerations x y z)) never-tells (late-tells now) (back-tells last now) (axes-tell x y z) never-tells (by-tells due now) never-tells
+  timed-found now (Timed.Supply rail) = found (Call.At now (Timed.Supply rail)) never-tells (late-tells now) (back-tells last now) never-tells never-tells (by-tells due now) never-tells
+  timed-found now Timed.Due = found (Call.At now Timed.Due) never-tells (late-tells now) (back-tells last now) never-tells never-tells never-tells (not-at-tells due now)
+  timed-found now (Timed.Rising mosi) = found (Call.At now (Timed.Rising mosi)) never-tells (late-tells now) (back-tells last now) never-tells never-tells (by-tells due now) never-tells
+  timed-found now Timed.Falling = found (Call.At now Timed.Falling) never-tells (late-tells now) (back-tells last now) never-tells never-tells (by-tells due now) never-tells
+  timed-found now (Timed.Pins before after) = found (Call.At now (Timed.Pins before after)) never-tells (late-tells now) (back-tells last now) never-tells (jump-tells lines before) (by-tells due now) never-tells
 
   finds : (c : Call) → Found c
-  unfolding facts wrong-length too-late goes-back out-of-range before-due beside-due
+  unfolding facts wrong-length too-late goes-back out-of-range jumps before-due beside-due
   finds (Call.At now t) = timed-found now t
-  finds (Call.Temperature x) = found (Call.Temperature x) never-tells never-tells never-tells never-tells never-tells never-tells
-  finds (Call.Select on) = found (Call.Select on) never-tells never-tells never-tells never-tells never-tells never-tells
-  finds (Call.View address) = found (Call.View address) never-tells never-tells never-tells never-tells never-tells never-tells
-  finds (Call.StoredImage now n) = found (Call.StoredImage now n) (length-tells n) (late-tells now) (back-tells last now) never-tells never-tells never-tells
+  finds (Call.Temperature x) = found (Call.Temperature x) never-tells never-tells never-tells never-tells never-tells never-tells never-tells
+  finds (Call.Select on) = found (Call.Select on) never-tells never-tells never-tells never-tells never-tells never-tells never-tells
+  finds (Call.View address) = found (Call.View address) never-tells never-tells never-tells never-tells never-tells never-tells never-tells
+  finds (Call.StoredImage now n) = found (Call.StoredImage now n) (length-tells n) (late-tells now) (back-tells last now) never-tells never-tells never-tells never-tells
 
   -- the number that a call gets is that of the first fault, or 0
-  pub refused-only : (c : Call) → First (faults last due c) (refusal last due c)
+  pub refused-only : (c : Call) → First (faults last due lines c) (refusal last due lines c)
   unfolding refusal
-  refused-only c = found-first _ rows (faults last due c) (finds c)
+  refused-only c = found-first _ rows (faults last due lines c) (finds c)
 
   -- and it gets the number of the first fault, or 0
-  pub refused-whole : (c : Call) (n : ℕ) → First (faults last due c) n → refusal last due c ≡ n
+  pub refused-whole : (c : Call) (n : ℕ) → First (faults last due lines c) n → refusal last due lines c ≡ n
   unfolding refusal
-  refused-whole c n p = first-is-found _ rows (faults last due c) (finds c) n p
+  refused-whole c n p = first-is-found _ rows (faults last due lines c) (finds c) n p
 
 module _ (now : Time) (length : ℕ) where
   start-finds : Finds (bringing now length) start-rows (start-faults now length)
@@ -248,3 +293,13 @@ module _ (now : Time) (length : ℕ) where
   pub start-refused-whole : (n : ℕ) → First (start-faults now length) n → start-refusal now length ≡ n
   unfolding start-refusal
   start-refused-whole n p = first-is-found _ start-rows (start-faults now length) start-finds n p
+
+-- so an accepted pin report follows on
+is-true : (b : Bool) → not b ≡ false → b ≡ true
+is-true true e = refl
+is-true false e = never (sym e)
+
+pub follows-on : (last : Time) (due : Deadline) (lines : Levels) (now : Time) (before after : Levels) → eqb (refusal last due lines (Call.At now (Timed.Pins before after))) 0 ≡ true → before ≡ lines
+unfolding facts timed-facts jumps
+follows-on last due lines now before after e =
+    same-only lines before (is-true (same-levels lines before) (clear last due lines (Call.At now (Timed.Pins before after)) e .1 .1 .1 .1 .0))

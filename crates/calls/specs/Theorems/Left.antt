@@ -7,11 +7,12 @@ use lib.Dec.{eqb}
 use lib.IntN.{ℤ}
 use borrow.Author.Tests.{eqb-true}
 use Rattle.time.specs.declared.Time.{Time}
+use Rattle.i2c.specs.declared.types.Levels.{Levels}
 use Rattle.deadlines.specs.declared.Deadline.{Deadline}
 use Rattle.calls.specs.declared.types.Call.{Call}
 use Rattle.calls.specs.declared.types.Call.the-variants as Call
 use Rattle.calls.specs.Facts.{bringing, facts}
-use Rattle.calls.specs.Table.{rows, start-rows, first-found, wrong-length, too-late, goes-back, out-of-range, before-due, beside-due, refusal, start-refusal, unless-refused}
+use Rattle.calls.specs.Table.{rows, start-rows, first-found, wrong-length, too-late, goes-back, out-of-range, jumps, before-due, beside-due, refusal, start-refusal, unless-refused}
 use Rattle.calls.specs.Theorems.Found.{never, Clear, clear-is}
 
 pub accepted-is : {A : Type 0} (n : ℕ) (x y : A) → eqb n 0 ≡ true → unless-refused n x y ≡ y
@@ -23,9 +24,9 @@ unfolding unless-refused
 refused-is n x y e = rw e
 
 -- no test of the table finds anything in an accepted call
-pub clear : (last : Time) (due : Deadline) (c : Call) → eqb (refusal last due c) 0 ≡ true → Clear (record { last = last; due = due; call = facts c }) rows
+pub clear : (last : Time) (due : Deadline) (lines : Levels) (c : Call) → eqb (refusal last due lines c) 0 ≡ true → Clear (record { last = last; due = due; lines = lines; call = facts c }) rows
 unfolding refusal
-clear last due c e = clear-is _ rows (omega arith) (eqb-true _ 0 e)
+clear last due lines c e = clear-is _ rows (omega arith) (eqb-true _ 0 e)
 
 pub start-clear : (now : Time) (n : ℕ) → eqb (start-refusal now n) 0 ≡ true → Clear (bringing now n) start-rows
 unfolding start-refusal
@@ -40,20 +41,20 @@ pub start-length : (now : Time) (n : ℕ) → eqb (start-refusal now n) 0 ≡ tr
 unfolding wrong-length
 start-length now n e = is-nineteen n (eqb n 19) refl (start-clear now n e .0)
 
-pub buffer-length : (last : Time) (due : Deadline) (now : Time) (n : ℕ) → eqb (refusal last due (Call.StoredImage now n)) 0 ≡ true → n ≡ 19
+pub buffer-length : (last : Time) (due : Deadline) (lines : Levels) (now : Time) (n : ℕ) → eqb (refusal last due lines (Call.StoredImage now n)) 0 ≡ true → n ≡ 19
 unfolding facts wrong-length
-buffer-length last due now n e = is-nineteen n (eqb n 19) refl (clear last due (Call.StoredImage now n) e .0)
+buffer-length last due lines now n e = is-nineteen n (eqb n 19) refl (clear last due lines (Call.StoredImage now n) e .0)
 
 -- 01: temperature, select and view have no refusal
-module _ (last : Time) (due : Deadline) where
-  pub temperature-accepted : (x : ℤ) → refusal last due (Call.Temperature x) ≡ 0
-  unfolding refusal first-found facts wrong-length too-late goes-back out-of-range before-due beside-due
+module _ (last : Time) (due : Deadline) (lines : Levels) where
+  pub temperature-accepted : (x : ℤ) → refusal last due lines (Call.Temperature x) ≡ 0
+  unfolding refusal first-found facts wrong-length too-late goes-back out-of-range jumps before-due beside-due
   temperature-accepted x = refl
 
-  pub select-accepted : (on : Bool) → refusal last due (Call.Select on) ≡ 0
-  unfolding refusal first-found facts wrong-length too-late goes-back out-of-range before-due beside-due
+  pub select-accepted : (on : Bool) → refusal last due lines (Call.Select on) ≡ 0
+  unfolding refusal first-found facts wrong-length too-late goes-back out-of-range jumps before-due beside-due
   select-accepted on = refl
 
-  pub view-accepted : (address : ℕ) → refusal last due (Call.View address) ≡ 0
-  unfolding refusal first-found facts wrong-length too-late goes-back out-of-range before-due beside-due
+  pub view-accepted : (address : ℕ) → refusal last due lines (Call.View address) ≡ 0
+  unfolding refusal first-found facts wrong-length too-late goes-back out-of-range jumps before-due beside-due
   view-accepted address = refl

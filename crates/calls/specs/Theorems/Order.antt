@@ -2,7 +2,7 @@
 use Prim.Native.Nat.{ℕ, _^_}
 use mathlib.Core.Path.{_≡_, refl}
 use mathlib.Core.List.{List, [], _∷_}
-use mathlib.Core.Bool.{true}
+use mathlib.Core.Bool.{Bool, true, false}
 use lib.IntN.{ℤ, pos}
 use Rattle.time.specs.declared.Time.{Time}
 use Rattle.i2c.specs.declared.types.Levels.{Levels}
@@ -12,11 +12,11 @@ use Rattle.calls.specs.declared.types.Timed.{Timed}
 use Rattle.calls.specs.declared.types.Timed.the-variants as Timed
 use Rattle.calls.specs.declared.types.Call.the-variants as Call
 use Rattle.calls.specs.Facts.{timed-facts, facts}
-use Rattle.calls.specs.Table.{wrong-length, beyond, any-beyond, out-of-range, late, too-late, goes-back, due-by, due-at, before-due, beside-due, first-found, rows, start-rows, refusal, start-refusal}
+use Rattle.calls.specs.Table.{wrong-length, beyond, any-beyond, out-of-range, jumps, late, too-late, goes-back, due-by, due-at, before-due, beside-due, first-found, rows, start-rows, refusal, start-refusal}
 use Rattle.calls.specs.Theorems.Found.{numbers}
 
 -- 01's order
-pub order : numbers rows ≡ 1 ∷ 3 ∷ 4 ∷ 2 ∷ 5 ∷ 6 ∷ []
+pub order : numbers rows ≡ 1 ∷ 3 ∷ 4 ∷ 2 ∷ 8 ∷ 5 ∷ 6 ∷ []
 order = refl
 
 pub start-order : numbers start-rows ≡ 1 ∷ 3 ∷ []
@@ -32,38 +32,57 @@ far = s (2 ^ 32)
 abbrev wide : ℤ
 wide = pos 1000000001
 
+-- levels of the clock and the data
+abbrev levels : Bool → Bool → Levels
+levels scl sda = record { scl = scl; sda = sda }
+
+abbrev high : Levels
+high = levels true true
+
 -- with all faults, and then without the one that was found
 abbrev starts : List ℕ
 starts = start-refusal far 18 ∷ start-refusal far 19 ∷ start-refusal (s 9) 19 ∷ []
 
 abbrev stored-images : List ℕ
 stored-images =
-    refusal (s (2 ^ 33)) Never (Call.StoredImage far 20)
-    ∷ refusal (s (2 ^ 33)) Never (Call.StoredImage far 19)
-    ∷ refusal (s 9) (At (s 1)) (Call.StoredImage (s 8) 19)
-    ∷ refusal (s 9) (At (s 1)) (Call.StoredImage (s 9) 19)
+    refusal (s (2 ^ 33)) Never high (Call.StoredImage far 20)
+    ∷ refusal (s (2 ^ 33)) Never high (Call.StoredImage far 19)
+    ∷ refusal (s 9) (At (s 1)) high (Call.StoredImage (s 8) 19)
+    ∷ refusal (s 9) (At (s 1)) high (Call.StoredImage (s 9) 19)
     ∷ []
 
 abbrev accelerations : List ℕ
 accelerations =
-    refusal (s (2 ^ 33)) (At (s 1)) (Call.At far (Timed.Accelerations wide wide wide))
-    ∷ refusal (s 9) (At (s 1)) (Call.At (s 8) (Timed.Accelerations (pos 0) wide (pos 0)))
-    ∷ refusal (s 9) (At (s 9)) (Call.At (s 9) (Timed.Accelerations (pos 0) (pos 0) wide))
-    ∷ refusal (s 9) (At (s 9)) (Call.At (s 9) (Timed.Accelerations (pos 1000000000) (pos 0) (pos 0)))
-    ∷ refusal (s 9) (At (s 10)) (Call.At (s 9) (Timed.Accelerations (pos 1000000000) (pos 0) (pos 0)))
+    refusal (s (2 ^ 33)) (At (s 1)) high (Call.At far (Timed.Accelerations wide wide wide))
+    ∷ refusal (s 9) (At (s 1)) high (Call.At (s 8) (Timed.Accelerations (pos 0) wide (pos 0)))
+    ∷ refusal (s 9) (At (s 9)) high (Call.At (s 9) (Timed.Accelerations (pos 0) (pos 0) wide))
+    ∷ refusal (s 9) (At (s 9)) high (Call.At (s 9) (Timed.Accelerations (pos 1000000000) (pos 0) (pos 0)))
+    ∷ refusal (s 9) (At (s 10)) high (Call.At (s 9) (Timed.Accelerations (pos 1000000000) (pos 0) (pos 0)))
     ∷ []
 
 abbrev timed : Timed → List ℕ
 timed t =
-    refusal (s (2 ^ 33)) (At (s 1)) (Call.At far t)
-    ∷ refusal (s 9) (At (s 1)) (Call.At (s 8) t)
-    ∷ refusal (s 9) (At (s 9)) (Call.At (s 9) t)
-    ∷ refusal (s 9) (At (s 10)) (Call.At (s 9) t)
-    ∷ refusal (s 9) Never (Call.At (s 9) t)
+    refusal (s (2 ^ 33)) (At (s 1)) high (Call.At far t)
+    ∷ refusal (s 9) (At (s 1)) high (Call.At (s 8) t)
+    ∷ refusal (s 9) (At (s 9)) high (Call.At (s 9) t)
+    ∷ refusal (s 9) (At (s 10)) high (Call.At (s 9) t)
+    ∷ refusal (s 9) Never high (Call.At (s 9) t)
     ∷ []
 
-abbrev high : Levels
-high = record { scl = true; sda = true }
+-- a pin report from these levels, where both were high after the last accepted one
+abbrev report : Levels → Timed
+report before = Timed.Pins before high
+
+abbrev pin-reports : List ℕ
+pin-reports =
+    refusal (s (2 ^ 33)) (At (s 1)) high (Call.At far (report (levels false false)))
+    ∷ refusal (s 9) (At (s 1)) high (Call.At (s 8) (report (levels false false)))
+    ∷ refusal (s 9) (At (s 9)) high (Call.At (s 9) (report (levels false true)))
+    ∷ refusal (s 9) (At (s 9)) high (Call.At (s 9) (report (levels true false)))
+    ∷ refusal (s 9) (At (s 9)) high (Call.At (s 9) (report high))
+    ∷ refusal (s 9) (At (s 10)) high (Call.At (s 9) (report high))
+    ∷ refusal (s 9) Never high (Call.At (s 9) (report high))
+    ∷ []
 
 pub record Ordered : Type 0 where
   pub start : starts ≡ 1 ∷ 3 ∷ 0 ∷ []
@@ -72,9 +91,9 @@ pub record Ordered : Type 0 where
   pub supply : timed (Timed.Supply 0) ≡ 3 ∷ 4 ∷ 5 ∷ 0 ∷ 0 ∷ []
   pub rising : timed (Timed.Rising true) ≡ 3 ∷ 4 ∷ 5 ∷ 0 ∷ 0 ∷ []
   pub falling : timed Timed.Falling ≡ 3 ∷ 4 ∷ 5 ∷ 0 ∷ 0 ∷ []
-  pub pins : timed (Timed.Pins high high) ≡ 3 ∷ 4 ∷ 5 ∷ 0 ∷ 0 ∷ []
+  pub pins : pin-reports ≡ 3 ∷ 4 ∷ 8 ∷ 8 ∷ 5 ∷ 0 ∷ 0 ∷ []
   pub due : timed Timed.Due ≡ 3 ∷ 4 ∷ 0 ∷ 6 ∷ 6 ∷ []
 
 pub ordered : Ordered
-unfolding timed-facts facts wrong-length beyond any-beyond out-of-range late too-late goes-back due-by due-at before-due beside-due first-found refusal start-refusal is-at is-by
+unfolding timed-facts facts wrong-length beyond any-beyond out-of-range jumps late too-late goes-back due-by due-at before-due beside-due first-found refusal start-refusal is-at is-by
 ordered = record { start = refl; stored-image = refl; accelerations = refl; supply = refl; rising = refl; falling = refl; pins = refl; due = refl }

@@ -125,7 +125,7 @@ module _ (now : Time) {image : List ℕ} {s : Sensor} (late : T.late now ≡ fal
       (goes-nowhere (host now (power-on s now)))
 
   image-accepted : accepts (host now (power-on s now)) (Call.StoredImage now 19) ≡ true
-  unfolding T.refusal T.first-found T.wrong-length TF.facts T.too-late T.goes-back T.out-of-range T.before-due T.beside-due
+  unfolding T.refusal T.first-found T.wrong-length TF.facts T.too-late T.goes-back T.out-of-range T.jumps T.before-due T.beside-due
   image-accepted = rw (late, not-back)
 
   -- the bytes handed out are those that the cut left

@@ -7,6 +7,7 @@ use Rattle.time.specs.declared.Time.{Time}
 use Rattle.time.specs.Time.{ticks}
 use Rattle.i2c.specs.declared.types.Edge.{Edge}
 use Rattle.i2c.specs.Engine as E
+use Rattle.i2c.specs.declared.types.Levels.{Levels}
 use Rattle.i2c.specs.declared.types.State.{State}
 use Rattle.spi.specs.declared.types.Frame.{Frame}
 use Rattle.spi.specs.Frame as F
@@ -18,7 +19,7 @@ use Rattle.calls.specs.declared.types.Timed.{Timed}
 use Rattle.calls.specs.declared.types.Call.the-variants as Call
 use Rattle.calls.specs.Table as T
 use Rattle.sensor.specs.declared.types.Sensor.{Sensor}
-use Rattle.sensor.specs.Record.{with-frame, with-i2c, with-reads, is-off, is-quiet, four-wire, automatic}
+use Rattle.sensor.specs.Record.{with-frame, with-i2c, with-reads, with-lines, is-off, is-quiet, four-wire, automatic}
 use Rattle.samples.specs.Samples.{samples-run, next-sample, sample-due, next-deadline, interaction-deadline, samples-on-demand, sync-local-until}
 use Rattle.serial.specs.SpiEdges.{spi-listens, rise-synced, fall-synced}
 use Rattle.serial.specs.I2cPins.{i2c-listens, pins-synced}
@@ -47,6 +48,11 @@ with-pins s f i r = with-reads (with-i2c (with-frame s f) i) r
 pub held-pins : {now : Time} {s : Sensor} → Held now s → (f : Frame) (i : State) (r : Reads) → Held now (with-pins s f i r)
 unfolding samples-run next-sample sample-due next-deadline
 held-pins {now} {s} h f i r = record { on = h .on; ready = h .ready; loud = h .loud; unsampled = h .unsampled; undue = h .undue }
+
+-- nor are the levels of the last report
+pub held-lines : {now : Time} {s : Sensor} → Held now s → (l : Levels) → Held now (with-lines s l)
+unfolding samples-run next-sample sample-due next-deadline
+held-lines {now} {s} h l = record { on = h .on; ready = h .ready; loud = h .loud; unsampled = h .unsampled; undue = h .undue }
 
 -- no deadline is set
 pub never-set : {d : Deadline} → d ≡ Never → is-set d ≡ false
@@ -85,7 +91,7 @@ module _ (s : Sensor) (now : Time) (e : samples-run s ≡ false) where
 
 module _ (now : Time) (late : T.late now ≡ false) (s : Sensor) (h : Held now s) where
   -- any timed call at the moment but a due call and accelerations is accepted
-  pub held-accepts : (t : Timed) → Plain t → accepts (host now s) (Call.At now t) ≡ true
+  pub held-accepts : (t : Timed) → Plain (s .kept .lines) t → accepts (host now s) (Call.At now t) ≡ true
   held-accepts t p = plain-accepted (host now s) now t p late (le-ltb (ticks now) (ticks now) (le-refl (ticks now))) (h .undue)
 
   -- and meets the sensor as it is

@@ -69,6 +69,15 @@ slice-aggregate-put-word-7 c = search needs
 put-word-requires-7 : tie.Need-put-word-requires-7
 put-word-requires-7 c κs = search needs
 
+enum-told-8 : tie.Need-enum-told-8
+enum-told-8 c = search needs
+
+slice-aggregate-put-word-8 : tie.Need-slice-aggregate-put-word-8
+slice-aggregate-put-word-8 c = search needs
+
+put-word-requires-8 : tie.Need-put-word-requires-8
+put-word-requires-8 c κs = search needs
+
 returns : tie.Need-returns
 unfolding word refusal-number
 returns c = (says (c .put-word .ensures) (rw (c .before .before .before .enum-told .given .1)), omega (arith, c .put-word .ensures .next))
@@ -97,6 +106,10 @@ returns-7 : tie.Need-returns-7
 unfolding word refusal-number
 returns-7 c = (says (c .put-word7 .ensures) (rw (c .before .before .before .enum-told7 .given .1)), omega (arith, c .put-word7 .ensures .next))
 
+returns-8 : tie.Need-returns-8
+unfolding word refusal-number
+returns-8 c = (says (c .put-word8 .ensures) (rw (c .before .before .before .enum-told8 .given .1)), omega (arith, c .put-word8 .ensures .next))
+
 pub put-refusal-spec : {M : Type 1} → statement M
 put-refusal-spec =
     tie.close
@@ -122,10 +135,14 @@ put-refusal-spec =
     enum-told-7
     slice-aggregate-put-word-7
     put-word-requires-7
+    enum-told-8
+    slice-aggregate-put-word-8
+    put-word-requires-8
     returns
     returns-2
     returns-3
     returns-4
     returns-5
     returns-6
-    returns-7)
+    returns-7
+    returns-8)

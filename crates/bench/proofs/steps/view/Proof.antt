@@ -15,7 +15,7 @@ returns : tie.Need-returns
 unfolding extra-adds number
 returns c =
     let a = c .before .args in
-    called-is (sym (view-accepted _ _ (a .address))) (view-leaves (a .sensor) (a .address)) (c .view .ensures)
+    called-is (sym (view-accepted _ _ _ (a .address))) (view-leaves (a .sensor) (a .address)) (c .view .ensures)
 
 pub view-spec : {M : Type 1} → statement M
 view-spec = tie.close (tie.spec view-requires returns)

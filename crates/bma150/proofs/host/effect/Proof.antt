@@ -50,6 +50,9 @@ enum-known-t-4 c = search needs
 i2c-pins-at-requires : tie.Need-i2c-pins-at-requires
 i2c-pins-at-requires c κs = search needs
 
+with-lines-requires : tie.Need-with-lines-requires
+with-lines-requires c κs = search needs
+
 without-report-requires-4 : tie.Need-without-report-requires-4
 without-report-requires-4 c κs = search needs
 
@@ -75,7 +78,7 @@ returns-5 c = simp (c .without-report3 .ensures, c .before .falling-at .ensures,
 
 returns-6 : tie.Need-returns-6
 unfolding effect
-returns-6 c = simp (c .without-report4 .ensures, c .before .i2c-pins-at .ensures, c .before .before .before .t4 .given .1)
+returns-6 c = simp (c .without-report4 .ensures, c .before .with-lines .ensures, c .before .before .i2c-pins-at .ensures, c .before .before .before .before .t4 .given .1)
 
 pub effect-spec : {M : Type 1} → statement M
 effect-spec =
@@ -96,6 +99,7 @@ effect-spec =
     without-report-requires-3
     enum-known-t-4
     i2c-pins-at-requires
+    with-lines-requires
     without-report-requires-4
     returns
     returns-2

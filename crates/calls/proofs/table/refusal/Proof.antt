@@ -36,23 +36,30 @@ returns-4 : tie.Need-returns-4
 unfolding number refusal refusal-number first-found
 returns-4 c = rw (← c .before .before .before .before .before .before .before .before .facts .ensures, sym (c .before .out-of-range .ensures) ∙ c .if4 .taken, sym (c .before .before .before .goes-back .ensures) ∙ c .before .before .if3 .left, sym (c .before .before .before .before .before .too-late .ensures) ∙ c .before .before .before .before .if2 .left, sym (c .before .before .before .before .before .before .before .wrong-length .ensures) ∙ c .before .before .before .before .before .before .if1 .left)
 
-before-due-requires : tie.Need-before-due-requires
-before-due-requires c κs = search needs
+jumps-requires : tie.Need-jumps-requires
+jumps-requires c κs = search needs
 
 returns-5 : tie.Need-returns-5
 unfolding number refusal refusal-number first-found
-returns-5 c = rw (← c .before .before .before .before .before .before .before .before .before .before .facts .ensures, sym (c .before .before-due .ensures) ∙ c .if5 .taken, sym (c .before .before .before .out-of-range .ensures) ∙ c .before .before .if4 .left, sym (c .before .before .before .before .before .goes-back .ensures) ∙ c .before .before .before .before .if3 .left, sym (c .before .before .before .before .before .before .before .too-late .ensures) ∙ c .before .before .before .before .before .before .if2 .left, sym (c .before .before .before .before .before .before .before .before .before .wrong-length .ensures) ∙ c .before .before .before .before .before .before .before .before .if1 .left)
+returns-5 c = rw (← c .before .before .before .before .before .before .before .before .before .before .facts .ensures, sym (c .before .jumps .ensures) ∙ c .if5 .taken, sym (c .before .before .before .out-of-range .ensures) ∙ c .before .before .if4 .left, sym (c .before .before .before .before .before .goes-back .ensures) ∙ c .before .before .before .before .if3 .left, sym (c .before .before .before .before .before .before .before .too-late .ensures) ∙ c .before .before .before .before .before .before .if2 .left, sym (c .before .before .before .before .before .before .before .before .before .wrong-length .ensures) ∙ c .before .before .before .before .before .before .before .before .if1 .left)
+
+before-due-requires : tie.Need-before-due-requires
+before-due-requires c κs = search needs
+
+returns-6 : tie.Need-returns-6
+unfolding number refusal refusal-number first-found
+returns-6 c = rw (← c .before .before .before .before .before .before .before .before .before .before .before .before .facts .ensures, sym (c .before .before-due .ensures) ∙ c .if6 .taken, sym (c .before .before .before .jumps .ensures) ∙ c .before .before .if5 .left, sym (c .before .before .before .before .before .out-of-range .ensures) ∙ c .before .before .before .before .if4 .left, sym (c .before .before .before .before .before .before .before .goes-back .ensures) ∙ c .before .before .before .before .before .before .if3 .left, sym (c .before .before .before .before .before .before .before .before .before .too-late .ensures) ∙ c .before .before .before .before .before .before .before .before .if2 .left, sym (c .before .before .before .before .before .before .before .before .before .before .before .wrong-length .ensures) ∙ c .before .before .before .before .before .before .before .before .before .before .if1 .left)
 
 beside-due-requires : tie.Need-beside-due-requires
 beside-due-requires c κs = search needs
 
-returns-6 : tie.Need-returns-6
-unfolding number refusal refusal-number first-found
-returns-6 c = rw (← c .before .before .before .before .before .before .before .before .before .before .before .before .facts .ensures, sym (c .before .beside-due .ensures) ∙ c .if6 .taken, sym (c .before .before .before .before-due .ensures) ∙ c .before .before .if5 .left, sym (c .before .before .before .before .before .out-of-range .ensures) ∙ c .before .before .before .before .if4 .left, sym (c .before .before .before .before .before .before .before .goes-back .ensures) ∙ c .before .before .before .before .before .before .if3 .left, sym (c .before .before .before .before .before .before .before .before .before .too-late .ensures) ∙ c .before .before .before .before .before .before .before .before .if2 .left, sym (c .before .before .before .before .before .before .before .before .before .before .before .wrong-length .ensures) ∙ c .before .before .before .before .before .before .before .before .before .before .if1 .left)
-
 returns-7 : tie.Need-returns-7
 unfolding number refusal refusal-number first-found
-returns-7 c = rw (← c .before .before .before .before .before .before .before .before .before .before .before .before .facts .ensures, sym (c .before .beside-due .ensures) ∙ c .if6 .left, sym (c .before .before .before .before-due .ensures) ∙ c .before .before .if5 .left, sym (c .before .before .before .before .before .out-of-range .ensures) ∙ c .before .before .before .before .if4 .left, sym (c .before .before .before .before .before .before .before .goes-back .ensures) ∙ c .before .before .before .before .before .before .if3 .left, sym (c .before .before .before .before .before .before .before .before .before .too-late .ensures) ∙ c .before .before .before .before .before .before .before .before .if2 .left, sym (c .before .before .before .before .before .before .before .before .before .before .before .wrong-length .ensures) ∙ c .before .before .before .before .before .before .before .before .before .before .if1 .left)
+returns-7 c = rw (← c .before .before .before .before .before .before .before .before .before .before .before .before .before .before .facts .ensures, sym (c .before .beside-due .ensures) ∙ c .if7 .taken, sym (c .before .before .before .before-due .ensures) ∙ c .before .before .if6 .left, sym (c .before .before .before .before .before .jumps .ensures) ∙ c .before .before .before .before .if5 .left, sym (c .before .before .before .before .before .before .before .out-of-range .ensures) ∙ c .before .before .before .before .before .before .if4 .left, sym (c .before .before .before .before .before .before .before .before .before .goes-back .ensures) ∙ c .before .before .before .before .before .before .before .before .if3 .left, sym (c .before .before .before .before .before .before .before .before .before .before .before .too-late .ensures) ∙ c .before .before .before .before .before .before .before .before .before .before .if2 .left, sym (c .before .before .before .before .before .before .before .before .before .before .before .before .before .wrong-length .ensures) ∙ c .before .before .before .before .before .before .before .before .before .before .before .before .if1 .left)
+
+returns-8 : tie.Need-returns-8
+unfolding number refusal refusal-number first-found
+returns-8 c = rw (← c .before .before .before .before .before .before .before .before .before .before .before .before .before .before .facts .ensures, sym (c .before .beside-due .ensures) ∙ c .if7 .left, sym (c .before .before .before .before-due .ensures) ∙ c .before .before .if6 .left, sym (c .before .before .before .before .before .jumps .ensures) ∙ c .before .before .before .before .if5 .left, sym (c .before .before .before .before .before .before .before .out-of-range .ensures) ∙ c .before .before .before .before .before .before .if4 .left, sym (c .before .before .before .before .before .before .before .before .before .goes-back .ensures) ∙ c .before .before .before .before .before .before .before .before .if3 .left, sym (c .before .before .before .before .before .before .before .before .before .before .before .too-late .ensures) ∙ c .before .before .before .before .before .before .before .before .before .before .if2 .left, sym (c .before .before .before .before .before .before .before .before .before .before .before .before .before .wrong-length .ensures) ∙ c .before .before .before .before .before .before .before .before .before .before .before .before .if1 .left)
 
 pub refusal-spec : {M : Type 1} → statement M
 refusal-spec =
@@ -67,8 +74,10 @@ refusal-spec =
     returns-3
     out-of-range-requires
     returns-4
-    before-due-requires
+    jumps-requires
     returns-5
-    beside-due-requires
+    before-due-requires
     returns-6
-    returns-7)
+    beside-due-requires
+    returns-7
+    returns-8)

@@ -35,11 +35,11 @@ enum-told-4 c = search needs
 at-requires-4 : tie.Need-at-requires-4
 at-requires-4 c κs = search needs
 
-enum-told-5 : tie.Need-enum-told-5
-enum-told-5 c = search needs
+enum-known-t-2 : tie.Need-enum-known-t-2
+enum-known-t-2 c = search needs
 
-at-requires-5 : tie.Need-at-requires-5
-at-requires-5 c κs = search needs
+reporting-requires : tie.Need-reporting-requires
+reporting-requires c κs = search needs
 
 returns : tie.Need-returns
 unfolding timed-facts
@@ -63,7 +63,7 @@ returns-5 c = simp (c .at4 .ensures, c .before .enum-told4 .given .1)
 
 returns-6 : tie.Need-returns-6
 unfolding timed-facts
-returns-6 c = simp (c .at5 .ensures, c .before .enum-told5 .given .1)
+returns-6 c = simp (c .reporting .ensures, c .before .before .t2 .given .1)
 
 pub timed-facts-spec : {M : Type 1} → statement M
 timed-facts-spec =
@@ -79,8 +79,8 @@ timed-facts-spec =
     at-requires-3
     enum-told-4
     at-requires-4
-    enum-told-5
-    at-requires-5
+    enum-known-t-2
+    reporting-requires
     returns
     returns-2
     returns-3

@@ -2,7 +2,6 @@ use Rattle.samples.specs.Samples.{interaction-deadline}
 use Rattle.sensor.specs.declared.types.Sensor.{Sensor}
 use Rattle.bma150.specs.Called.{effect}
 use Rattle.calls.specs.Table.{number, refusal, unless-refused}
-use Rattle.deadlines.specs.declared.Deadline.{Deadline}
 use Rattle.calls.specs.declared.types.Call.the-variants as Call
 use Rattle.bma150.proofs.Laws.{reports-added}
 use Rattle.bma150.specs.Called.{leaves, adds}
@@ -15,6 +14,9 @@ use Rattle.bma150.proofs.host.Bma150.timed.Tie as tie
 
 interaction-deadline-requires : tie.Need-interaction-deadline-requires
 interaction-deadline-requires c κs = search needs
+
+lines-requires : tie.Need-lines-requires
+lines-requires c κs = search needs
 
 refusal-requires : tie.Need-refusal-requires
 refusal-requires c κs = search needs
@@ -31,8 +33,10 @@ effect-requires c κs = search needs
 returns : tie.Need-returns
 unfolding report-values reported leaves adds unless-refused
 returns c =
-    let a = c .before .before .before .before .before .before .before .before .before .args in
-    let n : number (c .before .before .before .before .before .refusal .result) ≡ refusal (a .self .last) (interaction-deadline (a .self .sensor)) (Call.At (a .now) (a .t)) = c .before .before .before .before .before .refusal .ensures ∙ ap (λ (d : Deadline). refusal (a .self .last) d (Call.At (a .now) (a .t))) (c .before .before .before .before .before .before .interaction-deadline .ensures) in
+    let a = c .before .before .before .before .before .before .before .before .before .before .args in
+    let d = c .before .before .before .before .before .before .before .interaction-deadline .ensures in
+    let l = c .before .before .before .before .before .before .lines .ensures in
+    let n : number (c .before .before .before .before .before .refusal .result) ≡ refusal (a .self .last) (interaction-deadline (a .self .sensor)) (a .self .sensor .kept .lines) (Call.At (a .now) (a .t)) = rw (d, l) at (c .before .before .before .before .before .refusal .ensures) in
     let e = sym (c .before .before .before .before .is-accepted .ensures) ∙ c .before .before .before .if1 .taken in
     let f = c .before .effect .ensures ∙ ap (λ (s : Sensor). effect s (a .now) (a .t)) (c .before .before .sync-local-until .ensures) in
     (n, (rw (← n, e, f), rw (← n, e, f) (reports-added _ (a .now) (a .t))))
@@ -40,8 +44,10 @@ returns c =
 returns-2 : tie.Need-returns-2
 unfolding report-values reported leaves adds unless-refused
 returns-2 c =
-    let a = c .before .before .before .before .before .before .args in
-    let n : number (c .before .before .refusal .result) ≡ refusal (a .self .last) (interaction-deadline (a .self .sensor)) (Call.At (a .now) (a .t)) = c .before .before .refusal .ensures ∙ ap (λ (d : Deadline). refusal (a .self .last) d (Call.At (a .now) (a .t))) (c .before .before .before .interaction-deadline .ensures) in
+    let a = c .before .before .before .before .before .before .before .args in
+    let d = c .before .before .before .before .interaction-deadline .ensures in
+    let l = c .before .before .before .lines .ensures in
+    let n : number (c .before .before .refusal .result) ≡ refusal (a .self .last) (interaction-deadline (a .self .sensor)) (a .self .sensor .kept .lines) (Call.At (a .now) (a .t)) = rw (d, l) at (c .before .before .refusal .ensures) in
     let e = sym (c .before .is-accepted .ensures) ∙ c .if1 .left in
     (n, (rw (← n, e), rw (← n, e)))
 
@@ -50,6 +56,7 @@ timed-spec =
     tie.close
     (tie.spec
     interaction-deadline-requires
+    lines-requires
     refusal-requires
     is-accepted-requires
     sync-local-until-requires
