@@ -1,4 +1,4 @@
--- 01's table of refusals: which one a call gets, from the last accepted time, next due, the I2C lines as last reported, and the call.
+-- 01's table of refusals: which one a call gets, from the last accepted time, next due, the I2C levels after the last accepted report, and the call.
 use Prim.Native.Nat.{ℕ, _^_}
 use mathlib.Core.Bool.{Bool, false, Bool·beq, not, _&&_, _||_}
 use mathlib.Core.List.{List, [], _∷_}
