@@ -15,7 +15,7 @@ import zlib
 
 CARRIED = ["time.rs", "devices/nv.rs", "devices/bma150.rs"] + [
     "devices/bma150/" + name + ".rs"
-    for name in ("filter", "interrupts", "control", "i2c")
+    for name in ("analog", "filter", "interrupts", "control", "i2c")
 ]
 # Left out by the scope, or called by nothing that a call reaches.
 LEFT_OUT = {

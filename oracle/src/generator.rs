@@ -11,6 +11,7 @@ pub mod profiles;
 mod refused;
 mod settings;
 mod stories;
+mod strikes;
 
 use crate::{
     command::Command,

@@ -1,7 +1,10 @@
 //! Leaf files of the text, compiled once more so that a comparison can call
-//! them alone. Thin wrappers, no meaning of their own.
+//! them alone. Thin wrappers, no meaning of their own. `assemble` makes
+//! leaves/analog.rs: the text's, with the child module `state`.
 use crate::time::{Duration, Time};
 
+#[allow(dead_code)]
+mod analog;
 #[path = "devices/bma150/filter.rs"]
 #[allow(dead_code)]
 mod filter;
@@ -82,5 +85,26 @@ impl Interrupts {
     }
     pub fn verifying(&self, registers: &[u8]) -> bool {
         self.0.verifying(registers)
+    }
+}
+
+/// The low-pass stage of one axis.
+#[derive(Clone, Copy, Debug, PartialEq, Eq)]
+pub struct Axis(analog::Axis);
+
+impl Axis {
+    pub fn new(now: Time, input: i32) -> Self {
+        Self(analog::Axis::new(now, input))
+    }
+    /// An axis of any state.
+    pub fn of(at: Time, output: i64, velocity: i64) -> Self {
+        Self(analog::state::axis(at, output, velocity))
+    }
+    pub fn advance(&mut self, now: Time, input: i32) -> i64 {
+        self.0.advance(now, input).expect("time goes on")
+    }
+    /// Its moment, output and velocity.
+    pub fn fields(&self) -> (Time, i64, i64) {
+        analog::state::fields(&self.0)
     }
 }

@@ -9,7 +9,7 @@ use crate::{
     time::{Duration, Time},
 };
 
-/// The accelerations of the first sample: codes 341, -342 and 243.
+/// The accelerations that are sampled: codes 341, -342 and 243.
 const AXES: [i32; 3] = [2_664_063, -2_671_875, 1_898_438];
 
 #[derive(Clone)]

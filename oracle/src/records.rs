@@ -1,6 +1,9 @@
-//! Records that ask one function of the text each, and their answers.
+//! Records that ask one function of the text each, and their answers: kinds 01
+//! to 0b here, 10 to 12 in `registers`, 20 to 22 and 30 to 37 here, 40 and 41
+//! in `stage`, which says their form.
 pub mod random;
 mod registers;
+mod stage;
 
 pub(crate) use registers::{due, place, sampled, STOCK};
 
@@ -146,7 +149,9 @@ impl Leaves {
             0x12 => registers::access(record),
             0..=0x1f => record.moments(),
             0x20..=0x2f => self.filtered(record),
-            _ => self.interrupted(record),
+            0x30..=0x3f => self.interrupted(record),
+            0x40 => stage::rested(record),
+            _ => stage::advanced(record),
         }
     }
 

@@ -74,7 +74,7 @@ put-in (Added.put bytes) buffer = bytes
 
 -- 01: a timed call is `sync_local_until(now, false)` and then this; the levels after a pin report are kept
 unfoldable pub effect : Sensor → (now : Time) → Timed → Served
-effect s now (Timed.Accelerations x y z) = without-report (set-input s x y z)
+effect s now (Timed.Accelerations x y z) = without-report (set-input s x y z now)
 effect s now (Timed.Supply rail) = set-supply s rail now
 effect s now Timed.Due = at-deadline s now
 effect s now (Timed.Rising mosi) = without-report (rising-at s mosi now)

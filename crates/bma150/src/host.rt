@@ -75,7 +75,7 @@ fn effect(sensor: Sensor, now: Time, t: Timed) -> Served
     ensures { λ r. ⌜ r ≡ C.effect sensor now t ⌝ }
 {
     match t {
-        Timed::Accelerations(x, y, z) => without_report(set_input(sensor, x, y, z)),
+        Timed::Accelerations(x, y, z) => without_report(set_input(sensor, x, y, z, now)),
         Timed::Supply(rail) => set_supply(sensor, rail, now),
         Timed::Due => at_deadline(sensor, now),
         Timed::Rising(mosi) => without_report(rising_at(sensor, mosi, now)),

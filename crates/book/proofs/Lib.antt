@@ -6,3 +6,5 @@ pub mod Steps
 pub mod Lists
 pub mod Closed
 pub mod Follows
+pub mod Onward
+pub mod OnwardExamples

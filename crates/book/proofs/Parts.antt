@@ -18,7 +18,7 @@ use Rattle.sensor.specs.Record.{is-off}
 use Rattle.sensor.specs.Image.{cell-byte, with-cell}
 use Rattle.sensor.specs.Mode.{criterion}
 use Rattle.sensor.specs.Select.{may-select}
-use Rattle.waits.specs.Supply.{without-report, cut, power-off, zero-while-off, warm-return, cold-return, returned, supply-low, supply-ok, set-supply}
+use Rattle.waits.specs.Supply.{without-report, cut, held, power-off, zero-while-off, warm-return, cold-return, returned, supply-low, supply-ok, set-supply}
 use Rattle.waits.specs.Due.{waits-ended, pause-ended, completed, write-ended, hold-ends-now, at-deadline}
 use Rattle.book.proofs.Keeps.{Core, core, with-selected, select-core, waits-keeps, scalars-keeps, waits-served-keeps}
 
@@ -88,9 +88,9 @@ cut-is (Operation.Running w a v) s now = refl
 lost-is : (s : Sensor) (now : Time) (cold : Bool) → core (power-off s now cold .sensor) ≡ lost (core s) now cold
 unfolding may-select
 lost-is s now cold =
-    let c = cut (s .writing .operation) s now .sensor in
+    let c = cut (s .writing .operation) (held s now) now .sensor in
     ap (λ (k : Core). supplied-by k (record { «unpowered_since» = At now; cold = cold }))
-    (select-core c false ∙ ap (λ (k : Core). with-selected k false) (cut-is (s .writing .operation) s now))
+    (select-core c false ∙ ap (λ (k : Core). with-selected k false) (cut-is (s .writing .operation) (held s now) now))
 
 emptied-is : (s : Sensor) (zero : Bool) → core (zero-while-off s zero) ≡ cond zero (emptied (core s)) (core s)
 unfolding zero-while-off

@@ -4,4 +4,5 @@ pub mod Book
 pub mod Claim
 pub mod Closed
 pub mod Follows
+pub mod Onward
 pub mod Theorems

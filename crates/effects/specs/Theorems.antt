@@ -1,2 +1,5 @@
 pub mod Keeps
 pub mod Driver
+pub mod Stage
+pub mod Onward
+pub mod Moves

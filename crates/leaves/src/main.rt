@@ -1,6 +1,7 @@
 // Reads records of 32 bytes from standard input and answers each with 16 bytes (oracle/README.md, "Leaves").
 mod formulas;
 mod record;
+mod stage;
 mod state;
 
 ghost use Prim.Native.Nat.{_+_, _*_, _≤_};

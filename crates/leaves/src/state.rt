@@ -5,6 +5,7 @@ use crate::record::Record;
 use crate::record::raised;
 use crate::record::signed16;
 use crate::record::truths;
+use crate::stage::staged;
 use filter::Filter;
 use interrupts::Interrupts;
 
@@ -104,6 +105,12 @@ impl Leaves {
         if r.kind < 0x30 {
             return self.filtered(r);
         }
-        self.interrupted(r)
+        if r.kind < 0x40 {
+            return self.interrupted(r);
+        }
+        let mut s = self;
+        let a = staged(r);
+        s.answer = a;
+        s
     }
 }

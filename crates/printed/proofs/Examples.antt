@@ -39,6 +39,7 @@ use Rattle.samples.specs.Samples as BS
 use Rattle.sensor.specs.Select as BL
 use Rattle.serial.specs.Outputs as BO
 use Rattle.serial.specs.SpiEdges as BE
+use Rattle.sampling.specs.Stage as ST
 use Rattle.waits.specs.Supply as BU
 use Rattle.calls.specs.Facts as TF
 use Rattle.calls.specs.Table as T
@@ -123,7 +124,7 @@ record Computed : Type 0 where
   same-kept : kept stock-start cut-write ≡ kept other-start no-write
 
 computed : Computed
-unfolding NC.mixed NC.low-half NC.threshold NC.crossing NC.bits-where NC.byte RA.unwritable RA.working RA.stored RA.image-blocks RA.sleep-blocks RA.locked RA.ignores RA.begins DD.is-set DD.is-at DD.is-by DD.sooner DD.unless-at DD.first DD.earliest CW.written-control CW.written-register CW.kind-of-write CW.self-test CW.sleep SF.differs SF.reads SF.first-bit SF.addressed SF.completed SF.take-bit SF.moves SF.shifts SF.consumes-at-rise BR.runs BI.cell-byte BI.with-cell BC.pause-end BC.automatic-control BW.interrupts-written BW.tested BW.slept BW.image-written BW.register-effect BW.write-effect BS.samples-run BS.next-sample BS.write-end BS.sample-due BS.next-deadline BS.limit BS.caught-up BS.samples-on-demand BS.sync-local-until BL.selected-to BL.may-select BE.moved BE.first-bit-taken BE.write-done BE.spi-listens BE.rising-effect BE.rise-synced BU.cut BU.zero-while-off BU.returned BU.supply-low BU.supply-ok BU.set-supply TF.timed-facts TF.facts T.wrong-length T.out-of-range T.jumps T.late T.too-late T.goes-back T.due-by T.due-at T.before-due T.beside-due T.first-found T.refusal T.start-refusal T.unless-refused C.after-start C.effect C.timed-adds C.leaves C.adds RL.after RL.accepted RL.zeroed RL.met-zero RL.last-kept RD.spi-write RD.timed-does RD.does RB.operation RB.completing RB.cutting RB.supplied RB.runs RB.accepted-write RB.of-write RB.began RB.changed-at RB.entered RB.booked PI.inputs PI.texts PL.text-of L.line L.pins L.added-text X.word X.bit X.report-text X.due-text CV.drive-letter CV.report-values BC.interrupt BC.shows-new-data BO.output BO.data-output BO.spi-drives BO.i2c-holds IP.output IP.threshold-output IP.motion-output IS.configure BI.shadowing RL.answers E.call-bytes E.timed-bytes E.time-bytes E.bytes
+unfolding NC.mixed NC.low-half NC.threshold NC.crossing NC.bits-where NC.byte RA.unwritable RA.working RA.stored RA.image-blocks RA.sleep-blocks RA.locked RA.ignores RA.begins DD.is-set DD.is-at DD.is-by DD.sooner DD.unless-at DD.first DD.earliest CW.written-control CW.written-register CW.kind-of-write CW.self-test CW.sleep SF.differs SF.reads SF.first-bit SF.addressed SF.completed SF.take-bit SF.moves SF.shifts SF.consumes-at-rise BR.runs BI.cell-byte BI.with-cell BC.pause-end BC.automatic-control BW.interrupts-written BW.tested BW.slept BW.image-written BW.register-effect BW.write-effect BS.samples-run BS.next-sample BS.write-end BS.sample-due BS.next-deadline BS.limit BS.caught-up BS.samples-on-demand BS.sync-local-until BL.selected-to BL.may-select BE.moved BE.first-bit-taken BE.write-done BE.spi-listens BE.rising-effect BE.rise-synced BU.cut BU.turned ST.held ST.turned BU.zero-while-off BU.returned BU.supply-low BU.supply-ok BU.set-supply TF.timed-facts TF.facts T.wrong-length T.out-of-range T.jumps T.late T.too-late T.goes-back T.due-by T.due-at T.before-due T.beside-due T.first-found T.refusal T.start-refusal T.unless-refused C.after-start C.effect C.timed-adds C.leaves C.adds RL.after RL.accepted RL.zeroed RL.met-zero RL.last-kept RD.spi-write RD.timed-does RD.does RB.operation RB.completing RB.cutting RB.supplied RB.runs RB.accepted-write RB.of-write RB.began RB.changed-at RB.entered RB.booked PI.inputs PI.texts PL.text-of L.line L.pins L.added-text X.word X.bit X.report-text X.due-text CV.drive-letter CV.report-values BC.interrupt BC.shows-new-data BO.output BO.data-output BO.spi-drives BO.i2c-holds IP.output IP.threshold-output IP.motion-output IS.configure BI.shadowing RL.answers E.call-bytes E.timed-bytes E.time-bytes E.bytes
 computed = record { first-accepted = refl; first-returns = refl; first-from-zero = refl; first-book = refl; second-accepted = refl; second-returns = refl; second-from-zero = refl; second-book = refl; first-line = refl; second-input = refl; second-text = refl; same-kept = refl }
 
 -- ---- the operands fit

@@ -1,2 +1,3 @@
 pub mod Phase
+pub mod Stage
 pub mod Split

@@ -9,6 +9,9 @@ use Rattle.laws.specs.Notation.{if_then_else_, Registers}
 use Rattle.laws.specs.Iterate.{iterate}
 use Rattle.time.specs.declared.Clock.{Clock}
 use Rattle.time.specs.Clock as C
+use Rattle.analog.specs.declared.types.Axis.{Axis}
+use Rattle.analog.specs.declared.types.Analog.{Analog}
+use Rattle.analog.specs.Axis as A
 use Rattle.filter.specs.declared.Filter.{Filter}
 use Rattle.filter.specs.Filter.{window, pushed, answered}
 use Rattle.registers.specs.Map.{at, acc-lsb, acc-msb, temp, status, control, measurement, operation, offset-lsb, offset-msb, new-data, self-test-1, range, new-data-INT, wake-up, with-st-result, without-self-test-0}
@@ -34,16 +37,19 @@ abbrev pub with-interrupts : Acquisition → Interrupts → Acquisition
 with-interrupts c i = record { registers = c .registers; sampling = c .sampling; interrupts = i }
 
 abbrev pub with-clock : Sampling → Clock → Sampling
-with-clock s k = record { filter = s .filter; filtered = s .filtered; clock = k; asleep = s .asleep; «auto_cycles» = s .«auto_cycles»; test = s .test; «data_ready» = s .«data_ready» }
+with-clock s k = record { filter = s .filter; filtered = s .filtered; clock = k; analog = s .analog; asleep = s .asleep; «auto_cycles» = s .«auto_cycles»; test = s .test; «data_ready» = s .«data_ready» }
+
+abbrev pub with-analog : Sampling → Analog → Sampling
+with-analog s a = record { filter = s .filter; filtered = s .filtered; clock = s .clock; analog = a; asleep = s .asleep; «auto_cycles» = s .«auto_cycles»; test = s .test; «data_ready» = s .«data_ready» }
 
 abbrev pub with-test : Sampling → Test → Sampling
-with-test s t = record { filter = s .filter; filtered = s .filtered; clock = s .clock; asleep = s .asleep; «auto_cycles» = s .«auto_cycles»; test = t; «data_ready» = s .«data_ready» }
+with-test s t = record { filter = s .filter; filtered = s .filtered; clock = s .clock; analog = s .analog; asleep = s .asleep; «auto_cycles» = s .«auto_cycles»; test = t; «data_ready» = s .«data_ready» }
 
 abbrev pub with-filtered : Sampling → Filter → (codes : List ℤ) → Sampling
-with-filtered s f codes = record { filter = f; filtered = codes; clock = s .clock; asleep = s .asleep; «auto_cycles» = s .«auto_cycles»; test = s .test; «data_ready» = s .«data_ready» }
+with-filtered s f codes = record { filter = f; filtered = codes; clock = s .clock; analog = s .analog; asleep = s .asleep; «auto_cycles» = s .«auto_cycles»; test = s .test; «data_ready» = s .«data_ready» }
 
 abbrev pub with-scan : Sampling → (n : ℕ) (ready : Bool) → Sampling
-with-scan s n ready = record { filter = s .filter; filtered = s .filtered; clock = s .clock; asleep = s .asleep; «auto_cycles» = n; test = s .test; «data_ready» = ready }
+with-scan s n ready = record { filter = s .filter; filtered = s .filtered; clock = s .clock; analog = s .analog; asleep = s .asleep; «auto_cycles» = n; test = s .test; «data_ready» = ready }
 
 -- ---- acquisition
 
@@ -61,15 +67,15 @@ acquired s = leb (acquisition-cycles (window (s .filter))) (s .«auto_cycles»)
 abbrev pub phase-of : (ordinal : ℕ) → ℕ
 phase-of ordinal = (ordinal % 4 + 3) % 4
 
--- 01: the sampled acceleration is the one last set
+-- an axis of the acceleration last set
 unfoldable pub axis-input : (input : Input) (axis : ℕ) → ℤ
 axis-input input axis = if eqb axis 0 then input .x else if eqb axis 1 then input .y else input .z
 
--- 01: the code of an axis; bit 3 of 0a, self_test_1, makes it 0 (the Rust's rule)
-unfoldable pub converted : (registers : Registers) (input : Input) (axis : ℕ) → ℤ
-converted registers input axis =
+-- 01: the code of an axis's sampled acceleration; bit 3 of 0a, self_test_1, makes it 0 (the Rust's rule)
+unfoldable pub converted : (registers : Registers) (acceleration : ℤ) (axis : ℕ) → ℤ
+converted registers acceleration axis =
     if self-test-1 (at registers control) then pos 0
-    else code (axis-input input axis) (offset (at registers (offset-lsb axis)) (at registers (offset-msb axis))) (range (at registers measurement))
+    else code acceleration (offset (at registers (offset-lsb axis)) (at registers (offset-msb axis))) (range (at registers measurement))
 
 -- 01: phase 0 sets temperature
 abbrev pub warmed : Acquisition → (input : Input) → Acquisition
@@ -92,9 +98,18 @@ shown c axis f k =
 abbrev pub filtered-code : Acquisition → (axis : ℕ) (k : ℤ) → Acquisition
 filtered-code c axis k = shown c axis (pushed (c .sampling .filter) axis k) (answered (c .sampling .filter) axis k)
 
--- phases 1 to 3 set the axes
+-- the stage of an axis, advanced to the moment of the clock's last edge
+abbrev pub lagged : Acquisition → (input : Input) (axis : ℕ) → Axis
+lagged c input axis = A.advanced (A.axis-of (c .sampling .analog) axis) (C.last (c .sampling .clock)) (axis-input input axis)
+
+abbrev pub with-lagged : Acquisition → (axis : ℕ) → Axis → Acquisition
+with-lagged c axis a = with-sampling c (with-analog (c .sampling) (A.with-axis (c .sampling .analog) axis a))
+
+-- phases 1 to 3 set the axes: the sampled acceleration is the stage's; under self_test_1 too the stage advances
 abbrev pub measured : Acquisition → (input : Input) (axis : ℕ) → Acquisition
-measured c input axis = filtered-code c axis (converted (c .registers) input axis)
+measured c input axis =
+    let a = lagged c input axis in
+    filtered-code (with-lagged c axis a) axis (converted (c .registers) (A.value a) axis)
 
 -- all three axes have new data
 unfoldable pub all-new : (registers : Registers) → Bool

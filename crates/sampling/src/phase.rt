@@ -5,6 +5,8 @@ ghost use mathlib.Core.List.{List};
 ghost use lib.Dec.{leb, eqb};
 ghost use lib.IntN.{ℤ};
 ghost use Prim.Native.Nat.{_<_, _≤_, _+_, min};
+ghost use Rattle.time.specs.Clock as C;
+ghost use Rattle.analog.specs.Axis as Ax;
 ghost use Rattle.registers.specs.Map.{wake-up};
 ghost use Rattle.control.specs.Lengths.{acquisition-cycles};
 ghost use Rattle.sampling.specs.Split as Split;
@@ -14,6 +16,7 @@ use crate::types::AcquisitionScalars;
 use crate::types::Input;
 use crate::types::Sampling;
 use crate::types::Test;
+use analog::types::Axis;
 use control::lengths::acquisition_cycles;
 use registers::codes::code;
 use registers::codes::code_high;
@@ -48,9 +51,9 @@ fn axis_input(input: Input, axis: u8) -> i32
     input.z
 }
 
-fn converted(registers: &[u8; 62], input: Input, axis: u8) -> i16
+fn converted(registers: &[u8; 62], acceleration: i64, axis: u8) -> i16
     requires { ⌜ axis < 3 ⌝ }
-    ensures { λ r. ⌜ r ≡ P.converted (now (registers .entry)) input axis ⌝ }
+    ensures { λ r. ⌜ r ≡ P.converted (now (registers .entry)) acceleration axis ⌝ }
 {
     if has(registers[CONTROL], SELF_TEST_1) {
         return 0;
@@ -59,7 +62,7 @@ fn converted(registers: &[u8; 62], input: Input, axis: u8) -> i16
     let low = registers[OFFSET_LSB + a];
     let high = registers[OFFSET_MSB + a];
     code(
-        axis_input(input, axis) as i64,
+        acceleration,
         offset(low, high),
         range(registers[MEASUREMENT]),
     )
@@ -151,10 +154,12 @@ impl Sampling {
         let f = self.filter;
         let codes = self.filtered;
         let clock = self.clock;
+        let analog = self.analog;
         Sampling {
             filter: f,
             filtered: codes,
             clock: clock,
+            analog: analog,
             asleep: self.asleep,
             auto_cycles: self.auto_cycles,
             test: test,
@@ -163,20 +168,30 @@ impl Sampling {
     }
 }
 
+// The stage of an axis at the clock's last edge.
+fn lagged(t: AcquisitionScalars, input: Input, axis: u8) -> Axis
+    ensures { λ r. ⌜ r ≡ Ax.advanced (Ax.axis-of (t .analog) axis) (C.last (t .clock)) (P.axis-input input axis) ⌝ }
+{
+    let clock = t.clock;
+    let analog = t.analog;
+    let a = analog.axis(axis);
+    a.sample(clock.last(), axis_input(input, axis))
+}
+
 // A code of an axis is filtered, and the answer shown.
-fn measured(
+fn filtered_code(
     registers: &mut [u8; 62],
     history: &mut [i16; 192],
     t: AcquisitionScalars,
-    input: Input,
     axis: u8,
+    k: i16,
 ) -> AcquisitionScalars
     requires { ⌜ axis < 3 ⌝ }
-    ensures { λ r. ⌜ Split.joined (now (registers .exit)) (now (history .exit)) r ≡ P.measured (Split.joined (now (registers .entry)) (now (history .entry)) t) input axis ⌝ }
+    ensures { λ r. ⌜ Split.joined (now (registers .exit)) (now (history .exit)) r ≡ P.filtered-code (Split.joined (now (registers .entry)) (now (history .entry)) t) axis k ⌝ }
 {
     let a = axis as usize;
     let places = t.places;
-    let p = places.push(history, axis, converted(registers, input, axis));
+    let p = places.push(history, axis, k);
     let answer = p.code;
     registers[ACC_LSB + a * 2] = code_low(answer);
     registers[ACC_MSB + a * 2] = code_high(answer);
@@ -190,6 +205,23 @@ fn measured(
     let r = *registers;
     u.interrupts = i.axis(axis, answer, r);
     u
+}
+
+// The stage of an axis is sampled.
+fn measured(
+    registers: &mut [u8; 62],
+    history: &mut [i16; 192],
+    t: AcquisitionScalars,
+    input: Input,
+    axis: u8,
+) -> AcquisitionScalars
+    requires { ⌜ axis < 3 ⌝ }
+    ensures { λ r. ⌜ Split.joined (now (registers .exit)) (now (history .exit)) r ≡ P.measured (Split.joined (now (registers .entry)) (now (history .entry)) t) input axis ⌝ }
+{
+    let b = lagged(t, input, axis);
+    let k = converted(registers, b.value(), axis);
+    let u = t.with_axis(axis, b);
+    filtered_code(registers, history, u, axis, k)
 }
 
 // The scan is complete: it is counted, and observed for motion.

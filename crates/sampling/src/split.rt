@@ -5,6 +5,7 @@ use crate::types::Acquisition;
 use crate::types::AcquisitionScalars;
 use crate::types::Sampling;
 use crate::types::Test;
+use analog::types::Axis;
 
 impl Acquisition {
     // All but the registers and the filter's history.
@@ -15,12 +16,14 @@ impl Acquisition {
         let f = s.filter;
         let codes = s.filtered;
         let clock = s.clock;
+        let analog = s.analog;
         let test = s.test;
         let interrupts = self.interrupts;
         AcquisitionScalars {
             places: f.places(),
             filtered: codes,
             clock: clock,
+            analog: analog,
             asleep: s.asleep,
             auto_cycles: s.auto_cycles,
             test: test,
@@ -37,17 +40,29 @@ impl AcquisitionScalars {
         let places = self.places;
         let codes = self.filtered;
         let clock = self.clock;
+        let analog = self.analog;
         let interrupts = self.interrupts;
         AcquisitionScalars {
             places: places,
             filtered: codes,
             clock: clock,
+            analog: analog,
             asleep: self.asleep,
             auto_cycles: self.auto_cycles,
             test: test,
             data_ready: self.data_ready,
             interrupts: interrupts,
         }
+    }
+
+    // The stage with another axis.
+    pub(crate) fn with_axis(self, axis: u8, a: Axis) -> AcquisitionScalars
+        ensures { λ r. ⌜ r ≡ Split.with-axis self axis a ⌝ }
+    {
+        let analog = self.analog;
+        let mut t = self;
+        t.analog = analog.with_axis(axis, a);
+        t
     }
 
     // The acquisition of this, registers and a history.
@@ -57,12 +72,14 @@ impl AcquisitionScalars {
         let places = self.places;
         let codes = self.filtered;
         let clock = self.clock;
+        let analog = self.analog;
         let test = self.test;
         let interrupts = self.interrupts;
         let sampling = Sampling {
             filter: places.joined(history),
             filtered: codes,
             clock: clock,
+            analog: analog,
             asleep: self.asleep,
             auto_cycles: self.auto_cycles,
             test: test,

@@ -1,4 +1,5 @@
 // What a sample phase needs and changes.
+use analog::types::Analog;
 use filter::Filter;
 use filter::RingState;
 use interrupts::Interrupts;
@@ -22,6 +23,7 @@ pub struct Sampling {
     pub filter: Filter,
     pub filtered: [i16; 3],
     pub clock: Clock,
+    pub analog: Analog,
     pub asleep: bool,
     pub auto_cycles: u16,
     pub test: Test,
@@ -40,6 +42,7 @@ pub(crate) struct AcquisitionScalars {
     pub(crate) places: RingState,
     pub(crate) filtered: [i16; 3],
     pub(crate) clock: Clock,
+    pub(crate) analog: Analog,
     pub(crate) asleep: bool,
     pub(crate) auto_cycles: u16,
     pub(crate) test: Test,

@@ -12,6 +12,7 @@ use Rattle.time.specs.Clock as Clock
 use Rattle.nv.specs.Cell.{cell-number}
 use Rattle.nv.specs.Cycle.{byte-at}
 use Rattle.filter.specs.Filter.{made, selected}
+use Rattle.analog.specs.Axis.{rest}
 use Rattle.interrupts.specs.State as I
 use Rattle.i2c.specs.Engine as E
 use Rattle.spi.specs.Frame as F
@@ -80,7 +81,7 @@ new-kept = record {
 }
 
 abbrev pub fresh-sampling : (now : Time) → Sampling
-fresh-sampling now = record { filter = made 6; filtered = replicate 3 (pos 0); clock = Clock.started now; asleep = false; «auto_cycles» = 0; test = Test.Off; «data_ready» = false }
+fresh-sampling now = record { filter = made 6; filtered = replicate 3 (pos 0); clock = Clock.started now; analog = rest now; asleep = false; «auto_cycles» = 0; test = Test.Off; «data_ready» = false }
 
 -- 3 ms to the first scan
 abbrev pub acquiring : (now : Time) → Deadlines

@@ -8,6 +8,7 @@ use Rattle.time.specs.declared.Time.{Time}
 use Rattle.time.specs.declared.Duration.{Duration}
 use Rattle.time.specs.Time.{plus, from-millis, from-micros}
 use Rattle.filter.specs.Filter.{made}
+use Rattle.analog.specs.Axis.{rest, all-resumed}
 use Rattle.interrupts.specs.State as I
 use Rattle.interrupts.specs.Pin.{output, verifying}
 use Rattle.i2c.specs.Engine as E
@@ -24,15 +25,16 @@ use Rattle.registers.specs.Map.{at, measurement, operation, bandwidth, latch-IN
 use Rattle.sampling.specs.declared.types.Test.the-variants as Test
 use Rattle.sampling.specs.declared.types.Sampling.{Sampling}
 use Rattle.sampling.specs.Phase as Phase
+use Rattle.sampling.specs.Stage as Stage
 use Rattle.sensor.specs.declared.types.Sensor.{Sensor}
 use Rattle.sensor.specs.Record.{with-registers, with-frame, with-i2c, with-reads, with-sampling, with-deadlines, with-interrupts, is-copying, automatic, is-writing, tests, with-asleep}
 use Rattle.sensor.specs.Image.{copy-image, reset-registers}
 
 -- ---- acquisition
 
--- awake with an empty filter and no scan counted
-abbrev pub acquiring : Sampling → ℕ → Sampling
-acquiring g b = record { filter = made b; filtered = g .filtered; clock = g .clock; asleep = false; «auto_cycles» = 0; test = g .test; «data_ready» = g .«data_ready» }
+-- awake with an empty filter and no scan counted; the stage goes on from where it was
+abbrev pub acquiring : Sampling → ℕ → (now : Time) → Sampling
+acquiring g b now = record { filter = made b; filtered = g .filtered; clock = g .clock; analog = all-resumed (g .analog) now; asleep = false; «auto_cycles» = 0; test = g .test; «data_ready» = g .«data_ready» }
 
 -- acquisition starts: samples begin so that the first scan is complete after `ready` (`start_acquisition`)
 abbrev pub start-acquisition : Sensor → (now : Time) (ready : Duration) → Sensor
@@ -41,7 +43,7 @@ start-acquisition s now ready =
     (with-reads
     (with-sampling
     (with-deadlines s (with-wake (with-pause (s .deadlines) Never) (At (plus now (acquisition-delay ready)))))
-    (acquiring (s .sampling) (bandwidth (at (s .registers) measurement))))
+    (acquiring (s .sampling) (bandwidth (at (s .registers) measurement)) now))
     (R.released (s .reads)))
     (I.restart-acquisition (s .interrupts))
 
@@ -55,11 +57,11 @@ pause-of s = pause-length (wake-up-pause (at (s .registers) operation)) pauses
 unfoldable pub pause-end : Sensor → (now : Time) → Deadline
 pause-end s now = if automatic s then At (plus now (pause-of s)) else Never
 
--- the sensor sleeps (`pause`)
+-- the sensor sleeps; awake, the stage is brought up to now first (`pause`)
 abbrev pub pause : Sensor → (now : Time) → Sensor
 pause s now =
     with-frame
-    (with-deadlines (with-sampling s (with-asleep (s .sampling) true)) (with-pause (with-wake (s .deadlines) Never) (pause-end s now)))
+    (with-deadlines (with-sampling s (with-asleep (Stage.held (s .sampling) now (s .kept .input)) true)) (with-pause (with-wake (s .deadlines) Never) (pause-end s now)))
     (F.released (s .frame))
 
 -- ---- the interrupt pin
@@ -123,9 +125,9 @@ automatic-control s now was-criterion verify =
 
 -- ---- soft reset (`soft_reset`)
 
--- no code, no self test, no new data
-abbrev pub cleared : Sampling → Sampling
-cleared g = record { filter = g .filter; filtered = replicate 3 (pos 0); clock = g .clock; asleep = g .asleep; «auto_cycles» = g .«auto_cycles»; test = Test.Off; «data_ready» = false }
+-- no code, no self test, no new data; the stage at rest
+abbrev pub cleared : Sampling → (now : Time) → Sampling
+cleared g now = record { filter = g .filter; filtered = replicate 3 (pos 0); clock = g .clock; analog = rest now; asleep = g .asleep; «auto_cycles» = g .«auto_cycles»; test = Test.Off; «data_ready» = false }
 
 -- registers, criteria and the I2C state as at a start, and the image copied
 abbrev pub reloaded : Sensor → Sensor
@@ -136,7 +138,7 @@ abbrev pub quieted : Sensor → (now : Time) → Sensor
 quieted s now =
     with-frame
     (with-deadlines
-    (with-reads (with-sampling s (cleared (s .sampling))) (R.forgotten (s .reads)))
+    (with-reads (with-sampling s (cleared (s .sampling) now)) (R.forgotten (s .reads)))
     (with-quiet (with-image (with-irq-hold (s .deadlines) Never) Never) (At (plus now (from-micros 10)))))
     (F.released (F.sending (s .frame) Sent.Nothing))
 

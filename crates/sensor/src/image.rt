@@ -6,6 +6,7 @@ use crate::types::Operation;
 use crate::types::Sensor;
 use crate::types::Supply;
 use crate::types::Writing;
+use analog::types::Analog;
 use deadlines::Deadline;
 use deadlines::Deadlines;
 use filter::Filter;
@@ -127,6 +128,7 @@ fn fresh_sampling(now: Time) -> Sampling
         filter: Filter::new(6),
         filtered: [0; 3],
         clock: Clock::new(now),
+        analog: Analog::at_rest(now),
         asleep: false,
         auto_cycles: 0,
         test: Test::Off,

@@ -28,20 +28,21 @@ use spi::types::Sent;
 use time::Duration;
 use time::Time;
 
-fn acquiring(sampling: Sampling, b: u8) -> Sampling
-    ensures { λ r. ⌜ r ≡ C.acquiring sampling b ⌝ }
+fn acquiring(sampling: Sampling, b: u8, now: Time) -> Sampling
+    ensures { λ r. ⌜ r ≡ C.acquiring sampling b now ⌝ }
 {
-    let mut g = sampling;
+    let mut g = sampling.resume(now);
     g.filter = Filter::new(b);
     g.asleep = false;
     g.auto_cycles = 0;
     g
 }
 
-fn cleared(sampling: Sampling) -> Sampling
-    ensures { λ r. ⌜ r ≡ C.cleared sampling ⌝ }
+fn cleared(sampling: Sampling, now: Time) -> Sampling
+    ensures { λ r. ⌜ r ≡ C.cleared sampling now ⌝ }
 {
-    let mut g = sampling.with_test(Test::Off);
+    let h = sampling.rest(now);
+    let mut g = h.with_test(Test::Off);
     g.filtered = [0; 3];
     g.data_ready = false;
     g
@@ -65,7 +66,7 @@ impl Sensor {
         let mut s = self;
         s.deadlines = e.with_wake(Deadline::At(now.plus(acquisition_delay(ready))));
         let g = s.sampling;
-        s.sampling = acquiring(g, bandwidth(s.registers[MEASUREMENT]));
+        s.sampling = acquiring(g, bandwidth(s.registers[MEASUREMENT]), now);
         let r = s.reads;
         s.reads = r.release();
         let i = s.interrupts;
@@ -95,7 +96,10 @@ impl Sensor {
         let e = d.with_wake(Deadline::Never);
         let mut s = self;
         s.deadlines = e.with_pause(self.pause_end(now));
-        let mut g = s.sampling;
+        let k = s.kept;
+        let i = k.input;
+        let h = s.sampling;
+        let mut g = h.hold(now, i);
         g.asleep = true;
         s.sampling = g;
         let f = s.frame;
@@ -247,7 +251,7 @@ impl Sensor {
     {
         let mut s = self;
         let g = s.sampling;
-        s.sampling = cleared(g);
+        s.sampling = cleared(g, now);
         let r = s.reads;
         s.reads = r.forget();
         let d = s.deadlines;

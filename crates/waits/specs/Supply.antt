@@ -14,6 +14,8 @@ use Rattle.i2c.specs.Engine as E
 use Rattle.deadlines.specs.declared.Deadline.{Deadline}
 use Rattle.deadlines.specs.declared.Deadline.the-variants.{At, Never}
 use Rattle.deadlines.specs.Deadlines.{shifted}
+use Rattle.sampling.specs.declared.types.Sampling.{Sampling}
+use Rattle.sampling.specs.Stage as Stage
 use Rattle.sensor.specs.declared.types.Operation.{Operation}
 use Rattle.sensor.specs.declared.types.Operation.the-variants as Operation
 use Rattle.sensor.specs.declared.types.Supply.{Supply}
@@ -21,7 +23,7 @@ use Rattle.waits.specs.declared.types.Report.{Report}
 use Rattle.waits.specs.declared.types.Report.the-variants as Report
 use Rattle.waits.specs.declared.types.Served.{Served}
 use Rattle.sensor.specs.declared.types.Sensor.{Sensor}
-use Rattle.sensor.specs.Record.{with-nonvolatile, with-i2c, with-kept, with-input, with-deadlines, with-writing, with-supply, is-off}
+use Rattle.sensor.specs.Record.{with-nonvolatile, with-i2c, with-sampling, with-kept, with-input, with-deadlines, with-writing, with-supply, is-off}
 use Rattle.sensor.specs.Image.{cell-byte, with-cell, power-on}
 use Rattle.sensor.specs.Mode.{start-acquisition}
 use Rattle.sensor.specs.Select.{set-selected}
@@ -51,10 +53,14 @@ off s now cold =
     let t = set-selected s false in
     with-supply (with-i2c t (E.aborted (t .i2c))) (record { «unpowered_since» = At now; cold = cold })
 
+-- awake, the stage is brought up to now first
+abbrev pub held : Sensor → (now : Time) → Sensor
+held s now = with-sampling s (Stage.held (s .sampling) now (s .kept .input))
+
 -- (`power_off`, called only with supply); 0 mV makes the return a cold one
 abbrev pub power-off : Sensor → (now : Time) (cold : Bool) → Served
 power-off s now cold =
-    let c = cut (s .writing .operation) s now in
+    let c = cut (s .writing .operation) (held s now) now in
     record { sensor = off (c .sensor) now cold; report = c .report }
 
 -- while off only 0 mV matters
@@ -98,8 +104,12 @@ set-supply s rail now = if ltb rail 2400 then supply-low s (eqb rail 0) now else
 
 -- ---- inputs
 
-abbrev pub set-input : Sensor → ℤ → ℤ → ℤ → Sensor
-set-input s x y z = with-kept s (with-input (s .kept) (record { x = x; y = y; z = z; «temperature_millicelsius» = s .kept .input .«temperature_millicelsius» }))
+-- with supply, the stage of an axis that changes is first brought up to now
+unfoldable pub turned : Sensor → (x y z : ℤ) (now : Time) → Sampling
+turned s x y z now = if is-off s then s .sampling else Stage.turned (s .sampling) now (s .kept .input) x y z
+
+abbrev pub set-input : Sensor → (x y z : ℤ) (now : Time) → Sensor
+set-input s x y z now = with-kept (with-sampling s (turned s x y z now)) (with-input (s .kept) (record { x = x; y = y; z = z; «temperature_millicelsius» = s .kept .input .«temperature_millicelsius» }))
 
 abbrev pub set-temperature : Sensor → ℤ → Sensor
 set-temperature s t = with-kept s (with-input (s .kept) (record { x = s .kept .input .x; y = s .kept .input .y; z = s .kept .input .z; «temperature_millicelsius» = t }))

@@ -5,6 +5,7 @@ use crate::types::Report;
 use crate::types::Served;
 use deadlines::Deadline;
 use sampling::types::Input;
+use sampling::types::Sampling;
 use sensor::image::cell_byte;
 use sensor::image::with_cell;
 use sensor::types::Operation;
@@ -79,12 +80,23 @@ fn off(sensor: Sensor, now: Time, cold: bool) -> Sensor
     s
 }
 
+fn held(sensor: Sensor, now: Time) -> Sensor
+    ensures { λ r. ⌜ r ≡ Sup.held sensor now ⌝ }
+{
+    let k = sensor.kept;
+    let i = k.input;
+    let g = sensor.sampling;
+    let mut s = sensor;
+    s.sampling = g.hold(now, i);
+    s
+}
+
 fn power_off(sensor: Sensor, now: Time, cold: bool) -> Served
     ensures { λ r. ⌜ r ≡ Sup.power-off sensor now cold ⌝ }
 {
     let w = sensor.writing;
     let operation = w.operation;
-    let c = cut(sensor, operation, now);
+    let c = cut(held(sensor, now), operation, now);
     let t = c.sensor;
     let report = c.report;
     let s = off(t, now, cold);
@@ -176,9 +188,22 @@ pub fn set_supply(sensor: Sensor, rail: u16, now: Time) -> Served
     without_report(s)
 }
 
-pub fn set_input(sensor: Sensor, x: i32, y: i32, z: i32) -> Sensor
-    ensures { λ r. ⌜ r ≡ Sup.set-input sensor x y z ⌝ }
+fn turned(sensor: Sensor, x: i32, y: i32, z: i32, now: Time) -> Sampling
+    ensures { λ r. ⌜ r ≡ Sup.turned sensor x y z now ⌝ }
 {
+    let g = sensor.sampling;
+    if sensor.is_off() {
+        return g;
+    }
+    let k = sensor.kept;
+    let i = k.input;
+    g.turn(now, i, x, y, z)
+}
+
+pub fn set_input(sensor: Sensor, x: i32, y: i32, z: i32, now: Time) -> Sensor
+    ensures { λ r. ⌜ r ≡ Sup.set-input sensor x y z now ⌝ }
+{
+    let g = turned(sensor, x, y, z, now);
     let mut k = sensor.kept;
     let i = k.input;
     let n = Input {
@@ -189,6 +214,7 @@ pub fn set_input(sensor: Sensor, x: i32, y: i32, z: i32) -> Sensor
     };
     k.input = n;
     let mut s = sensor;
+    s.sampling = g;
     s.kept = k;
     s
 }

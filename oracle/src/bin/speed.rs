@@ -1,9 +1,10 @@
 //! Measures two bench programs on the same streams: `speed FOLDER RUST PORT`.
 //!
-//! FOLDER holds `PROFILE-COUNT.bin`, made by `gen`; streams with long waits are
-//! put beside them. Each program runs on each stream three times, in turn, and
-//! its least user time counts. Prints a Markdown table. This process stays
-//! small: a child's peak memory counts from its parent's.
+//! FOLDER holds `PROFILE-COUNT.bin`, made by `gen`; streams with long waits and
+//! with moving accelerations are put beside them. Each program runs on each
+//! stream fifteen times, in turn, and its least user time counts. Prints a
+//! Markdown table. This process stays small: a child's peak memory counts from
+//! its parent's.
 use oracle::{command::Command, generator::STOCK, model::Model, Time};
 use std::{
     fs::{self, File},
@@ -19,7 +20,14 @@ const GAPS: [u64; 3] = [10, 20, 40];
 const CALLS: u64 = 10;
 /// Sample phases in a second.
 const PHASES: u64 = 12_000;
-const RUNS: u32 = 3;
+/// Settings that move all axes, and how many there are in a second: a little
+/// less than scans, so that they come at any place of one.
+const SETTINGS: u64 = 200_000;
+const PACE: u64 = 2900;
+/// Settings a few milliseconds apart: the low-pass stage just does not settle.
+const SWINGS: u64 = 20_000;
+const SWING: u64 = 250;
+const RUNS: u32 = 15;
 
 #[repr(C)]
 #[derive(Default)]
@@ -91,16 +99,15 @@ impl Bench {
         Ok(best)
     }
 
+    fn keep(&self, name: String, stream: &Stream) -> io::Result<String> {
+        fs::write(format!("{}/{name}.bin", self.folder), &stream.bytes)?;
+        Ok(name)
+    }
+
     /// A stream of calls `seconds` apart at a bandwidth code, awake throughout.
+    /// The low-pass stage has settled after the first milliseconds.
     fn gaps(&self, seconds: u64, bandwidth: u8) -> io::Result<String> {
-        let name = format!("gaps-{seconds}-{bandwidth}");
-        let mut stream = Stream::default();
-        stream.put(Command::Start {
-            at: Time::ZERO,
-            image: STOCK,
-        });
-        let wake = stream.model.next_due().expect("the sensor wakes");
-        stream.put(Command::Due { at: wake });
+        let (mut stream, wake) = Stream::awake();
         stream.write(0x14, 0x08 | bandwidth);
         for n in 1..=CALLS {
             let at = wake.raw() + (u128::from(seconds * n) << 64);
@@ -108,8 +115,22 @@ impl Bench {
                 at: Time::from_raw(at),
             });
         }
-        fs::write(format!("{}/{name}.bin", self.folder), &stream.bytes)?;
-        Ok(name)
+        self.keep(format!("gaps-{seconds}-{bandwidth}"), &stream)
+    }
+
+    /// A stream of settings, `pace` a second, that throw all axes from 1 g to
+    /// -1 g and back.
+    fn settings(&self, count: u64, pace: u64) -> io::Result<String> {
+        let (mut stream, wake) = Stream::awake();
+        for n in 1..=count {
+            let at = wake.raw() + (u128::from(n) << 64) / u128::from(pace);
+            let axis = [1_000_000, -1_000_000][(n % 2) as usize];
+            stream.put(Command::Accelerations {
+                at: Time::from_raw(at),
+                axes: [axis; 3],
+            });
+        }
+        self.keep(format!("settings-{count}-{pace}"), &stream)
     }
 }
 
@@ -120,6 +141,17 @@ struct Stream {
 }
 
 impl Stream {
+    /// From a start to the moment at which sampling begins.
+    fn awake() -> (Self, Time) {
+        let mut stream = Self::default();
+        stream.put(Command::Start {
+            at: Time::ZERO,
+            image: STOCK,
+        });
+        let wake = stream.model.next_due().expect("the sensor wakes");
+        stream.put(Command::Due { at: wake });
+        (stream, wake)
+    }
     /// Add a command, which the text must accept. Waits are not simulated.
     fn put(&mut self, command: Command) {
         assert!(self.model.refusal(&command).is_none(), "{command:?}");
@@ -189,9 +221,24 @@ impl Bench {
             let costs = self.costs(&self.gaps(seconds, bandwidth)?)?;
             let shown = costs.map(|cost| format!("{:.1}", cost.user * 1e9 / phases as f64));
             let count = grouped(phases as f64);
-            let what = format!("bandwidth {bandwidth}, {count} sample phases: ns a phase");
+            let what = format!("bandwidth {bandwidth}, settled, {count} sample phases: ns a phase");
             row(&what, shown, costs[1].user / costs[0].user);
         }
+        Ok(())
+    }
+
+    /// Accelerations that move: settings within the scans, and the samples of
+    /// a stage that does not settle.
+    fn moving(&self) -> io::Result<()> {
+        let (shown, ratio) = times(self.costs(&self.settings(SETTINGS, PACE)?)?);
+        let count = grouped(SETTINGS as f64);
+        row(&format!("{count} settings that move: ms"), shown, ratio);
+        let phases = SWINGS * PHASES / SWING;
+        let costs = self.costs(&self.settings(SWINGS, SWING)?)?;
+        let shown = costs.map(|cost| format!("{:.1}", cost.user * 1e9 / phases as f64));
+        let count = grouped(phases as f64);
+        let what = format!("bandwidth 6, moving, {count} sample phases: ns a phase");
+        row(&what, shown, costs[1].user / costs[0].user);
         Ok(())
     }
 
@@ -216,6 +263,7 @@ impl Bench {
         println!("|---|---|---|---|");
         self.rates()?;
         self.phases()?;
+        self.moving()?;
         self.growth()
     }
 }

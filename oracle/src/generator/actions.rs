@@ -119,9 +119,7 @@ impl Generator {
         } else {
             self.telling_axes()
         };
-        self.settle();
-        let at = self.now;
-        self.send(Command::Accelerations { at, axes });
+        self.set_axes(axes);
         self.look();
     }
 

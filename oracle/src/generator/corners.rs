@@ -69,10 +69,18 @@ impl Generator {
             };
             self.level(sign * set);
             self.advance(1400 * MICROSECOND);
-            self.level(sign * near.clamp(0, 511));
-            self.advance(1400 * MICROSECOND);
-            self.level(sign * near.clamp(0, 511));
+            self.approach(sign * set, sign * near.clamp(0, 511));
             self.see_at(&[9]);
+        }
+    }
+
+    /// From one code to another in steps so short that the low-pass stage does
+    /// not swing past it. The last is set twice, to have its samples taken.
+    fn approach(&mut self, from: i32, to: i32) {
+        for part in [8, 64, 512, 512] {
+            let axis = self.middle(to + (from - to) / part);
+            self.set_axes([axis; 3]);
+            self.advance(1400 * MICROSECOND);
         }
     }
 

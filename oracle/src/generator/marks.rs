@@ -2,6 +2,8 @@
 use super::{settings::STOCK, *};
 
 const G: i32 = 1_000_000_000;
+/// After this long the low-pass stage stands on its input, at bandwidth 6.
+const SETTLED: u128 = 7 * MILLISECOND;
 
 impl Generator {
     pub(super) fn marks(&mut self) {
@@ -39,7 +41,7 @@ impl Generator {
     fn ranges(&mut self) {
         for axes in [[G, -G, 0], [G + 1, 0, 0], [0, -G - 1, 0], [0, 0, G]] {
             self.set(axes);
-            self.pass(SECOND / 2900);
+            self.pass(SETTLED);
             self.views(2..=7);
         }
     }
@@ -48,7 +50,7 @@ impl Generator {
     fn codes_at_two_g(&mut self) {
         self.spi_write(&[(0x14, 0x06)]);
         self.set([-3906, -3907, 3906]);
-        self.pass(SECOND / 2900);
+        self.pass(SETTLED);
         self.views(2..=7);
     }
 

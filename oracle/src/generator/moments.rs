@@ -111,6 +111,17 @@ impl Generator {
         });
     }
 
+    /// Go to the next sample of an axis, or up to two units beside it.
+    pub(super) fn reach_sample(&mut self, axis: usize) {
+        let Some(next) = self.next_edge() else {
+            return;
+        };
+        // Axis 0 has the edges 2, 6, 10 and so on.
+        let ahead = (axis as u128 + 6 - next % 4) % 4;
+        let at = self.edge(next + ahead) - 2 + u128::from(self.random.below(5));
+        self.reach(Time::from_raw(at.min(LAST)));
+    }
+
     /// After a call on a sample edge, look whether it took the sample.
     pub(super) fn look(&mut self) {
         if let Some(address) = self.tied.take() {

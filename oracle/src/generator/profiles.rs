@@ -32,7 +32,8 @@ use Image::{Any, Automatic, Interrupts, Motion, Near, Stock};
 use Pace::{Bus, Edges, Even, Slow, Still, Swift};
 use Story::{
     Alarm, Answer, Band, Beside, Blind, Copy, Crossed, Dimmed, Drowse, Duration, Flicker, Hushed,
-    Locked, Midway, Nap, Orphan, Pair, Resume, Shake, Shared, Switch, Toggle, Unseen, Within,
+    Locked, Lull, Midway, Nap, Orphan, Pair, Resume, Shake, Shared, Strike, Switch, Toggle, Unseen,
+    Upset, Within,
 };
 
 const PLAIN: Profile = Profile {
@@ -40,6 +41,7 @@ const PLAIN: Profile = Profile {
     weights: [1, 3, 3, 1, 2, 3, 1, 4, 4, 1, 1, 4, 1, 2, 4, 3, 2],
     stories: &[
         Nap, Copy, Locked, Flicker, Shake, Toggle, Answer, Pair, Blind, Switch, Resume, Drowse,
+        Strike, Lull, Upset,
     ],
     images: [Stock, Near, Interrupts, Automatic],
     paces: [Swift, Bus, Edges, Slow],
@@ -53,7 +55,7 @@ const PLAIN: Profile = Profile {
     automatic: 10,
 };
 
-pub static PROFILES: [Profile; 13] = [
+pub static PROFILES: [Profile; 14] = [
     Profile {
         name: "i2c",
         weights: [1, 2, 0, 1, 0, 2, 0, 8, 10, 3, 3, 2, 0, 1, 4, 1, 3],
@@ -187,6 +189,17 @@ pub static PROFILES: [Profile; 13] = [
         asides: 2,
         late: 0,
         automatic: 2,
+        ..PLAIN
+    },
+    Profile {
+        name: "strikes",
+        weights: [1, 4, 2, 0, 1, 2, 0, 1, 2, 0, 0, 2, 0, 0, 3, 1, 20],
+        stories: &[Strike, Strike, Lull, Upset, Upset],
+        images: [Stock, Stock, Near, Interrupts],
+        paces: [Still, Swift, Bus, Edges],
+        spi: 90,
+        broken: 3,
+        extreme: 20,
         ..PLAIN
     },
 ];

@@ -138,17 +138,27 @@ impl Generator {
         }
     }
 
+    /// The width of a code at the present range, in eighths of a micro-g.
+    fn width(&self) -> i64 {
+        match self.model.peek(0x14).unwrap_or(14) >> 3 & 3 {
+            0 => 2 * 15625,
+            1 => 4 * 15625,
+            _ => 8 * 15625,
+        }
+    }
+
     /// The least acceleration that gives a code at the present range and the
     /// middle offset, or one less.
     fn acceleration(&mut self, code: i32) -> i32 {
-        let range = match self.model.peek(0x14).unwrap_or(14) >> 3 & 3 {
-            0 => 2,
-            1 => 4,
-            _ => 8,
-        };
-        let magnitude = (i64::from(code.abs()) * range * 15625 + 7) / 8;
+        let magnitude = (i64::from(code.abs()) * self.width() + 7) / 8;
         let less = i32::from(self.random.once_in(4));
         code.signum() * (magnitude as i32 - less)
+    }
+
+    /// An acceleration in the middle of those that give a code.
+    pub(super) fn middle(&self, code: i32) -> i32 {
+        let magnitude = (2 * i64::from(code.abs()) + 1) * self.width() / 16;
+        code.signum() * magnitude as i32
     }
 
     /// A code at or beside one where an interrupt sets or clears.
@@ -187,12 +197,16 @@ impl Generator {
         self.codes.map(|code| self.acceleration(code))
     }
 
-    /// Set the accelerations for the codes at hand.
-    pub(super) fn set_codes(&mut self) {
-        let axes = self.codes.map(|code| self.acceleration(code));
+    pub(super) fn set_axes(&mut self, axes: [i32; 3]) {
         self.settle();
         let at = self.now;
         self.send(Command::Accelerations { at, axes });
+    }
+
+    /// Set the accelerations for the codes at hand.
+    pub(super) fn set_codes(&mut self) {
+        let axes = self.codes.map(|code| self.acceleration(code));
+        self.set_axes(axes);
     }
 
     pub(super) fn extreme_axis(&mut self) -> i32 {

@@ -51,6 +51,12 @@ pub enum Story {
     Hushed,
     /// Each clock edge given to both buses.
     Shared,
+    /// Large steps of one axis and back.
+    Strike,
+    /// Accelerations set while nothing is sampled.
+    Lull,
+    /// What stops the low-pass stage while it moves.
+    Upset,
 }
 
 impl Generator {
@@ -80,6 +86,9 @@ impl Generator {
             Story::Crossed => self.crossed(),
             Story::Hushed => self.hushed(),
             Story::Shared => self.shared(),
+            Story::Strike => self.strike(),
+            Story::Lull => self.lull(),
+            Story::Upset => self.upset(),
         }
     }
 

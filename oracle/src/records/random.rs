@@ -1,5 +1,7 @@
 //! Random records, by seed: runs of one topic each, with values beside the
 //! limits.
+mod stage;
+
 use super::Record;
 use crate::{leaves::torn_byte, random::Random};
 
@@ -29,11 +31,12 @@ impl Records {
         while made.records.len() < count {
             let length = made.random.pick(&[1, 5, 40, 300]);
             let length = 1 + made.random.below(length);
-            match made.random.below(6) {
+            match made.random.below(7) {
                 0 => made.times(length, Self::moment),
                 1 => made.times(length, Self::torn),
                 2 => made.times(length, Self::register),
-                3 => made.filtering(length),
+                3 => made.times(length, Self::staged),
+                4 => made.filtering(length),
                 _ => made.interrupting(length),
             }
         }

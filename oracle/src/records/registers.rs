@@ -30,7 +30,8 @@ pub fn due(sensor: &mut Bma150, at: Time) {
     sensor.at_deadline(at, &mut Unheard).expect("a due call");
 }
 
-/// A sensor after its first four sample phases, and a moment before the fifth.
+/// A sensor after 80 sample phases, and a moment before the next: by then the
+/// low-pass stage stands on its input.
 pub fn sampled(image: &[u8; 19], axes: [i32; 3], millicelsius: i32) -> (Bma150, Time) {
     let mut sensor = Bma150::from_nonvolatile(Time::ZERO, image).expect("19 bytes");
     let [x, y, z] = axes;
@@ -39,7 +40,9 @@ pub fn sampled(image: &[u8; 19], axes: [i32; 3], millicelsius: i32) -> (Bma150, 
     sensor.set_temperature(millicelsius);
     let wake = sensor.interaction_deadline().expect("a wake-up");
     due(&mut sensor, wake);
-    let now = wake.checked_add(Duration::from_micros(340)).expect("early");
+    let now = wake
+        .checked_add(Duration::from_micros(6700))
+        .expect("early");
     sensor.sync_local_until(now, false).expect("samples");
     (sensor, now)
 }
@@ -56,9 +59,10 @@ pub fn write(sensor: &mut Bma150, address: u8, value: u8, now: Time) {
     sensor.set_selected(false);
 }
 
+/// At bandwidth 6, whatever `c` says: a mean would keep samples of the way.
 pub fn coded(record: &Record) -> Answer {
     let mut image = STOCK;
-    image[place(0x14)] = record.c;
+    image[place(0x14)] = record.c & 0x18 | 6;
     for axis in 0..3 {
         image[place(0x16) + axis] = record.a;
         image[place(0x1a) + axis] = record.b;

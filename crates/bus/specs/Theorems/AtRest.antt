@@ -47,7 +47,7 @@ use Rattle.samples.specs.Samples.{sync-local-until}
 use Rattle.writes.specs.Write.{register-effect, write-effect, write-kind}
 use Rattle.serial.specs.SpiEdges as E
 use Rattle.serial.specs.I2cPins.{i2c-listens, ones-for, launched, acted, i2c-pins, pins-synced}
-use Rattle.waits.specs.Supply.{without-report, cut, power-off, cold-return, zero-while-off, warm-return, returned, supply-low, supply-ok, set-supply}
+use Rattle.waits.specs.Supply.{without-report, cut, held, power-off, cold-return, zero-while-off, warm-return, returned, supply-low, supply-ok, set-supply}
 use Rattle.waits.specs.Due.{completed, waits-ended, pause-ended, write-ended, hold-ends-now, at-deadline}
 use Rattle.bma150.specs.declared.host.Bma150.{Bma150}
 use Rattle.bma150.specs.Called.{start-number, started, after-start, effect, leaves}
@@ -229,7 +229,7 @@ low-rests s zero now h = by (is-off s) zero
     by : (b z : Bool) → Rested (cond b (without-report (zero-while-off s z)) (power-off s now z) .sensor .frame)
     by true true = h
     by true false = h
-    by false z = selected-to-rests (cut (s .writing .operation) s now .sensor) _ (rested (cut-alike (s .writing .operation) s now) h)
+    by false z = selected-to-rests (cut (s .writing .operation) (held s now) now .sensor) _ (rested (cut-alike (s .writing .operation) (held s now) now) h)
 
 returned-rests : (s : Sensor) (now : Time) → Rested (s .frame) → Rested (returned s now .frame)
 unfolding returned

@@ -111,8 +111,8 @@ module _ (s : Sensor) (h : Heard s) where
 
 -- ---- acceleration and temperature are no part of the bus
 
-pub input-same : (s : Sensor) (x y z : ℤ) → Same s (set-input s x y z)
-input-same s x y z = record { same = refl }
+pub input-same : (s : Sensor) (x y z : ℤ) (now : Time) → Same s (set-input s x y z now)
+input-same s x y z now = record { same = refl }
 
 pub temperature-same : (s : Sensor) (x : ℤ) → Same s (set-temperature s x)
 temperature-same s x = record { same = refl }

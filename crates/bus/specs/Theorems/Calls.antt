@@ -129,7 +129,7 @@ module _ (s : Sensor) (now : Time) (h : Heard s) where
 
   input-left : (x y z : ℤ) → Same s (effect (caught s now) now (Timed.Accelerations x y z) .sensor)
   unfolding effect
-  input-left x y z = and-then caught-up (input-same (caught s now) x y z)
+  input-left x y z = and-then caught-up (input-same (caught s now) x y z now)
 
   supply-left : (rail : ℕ) → ltb rail 2400 ≡ false → Same s (effect (caught s now) now (Timed.Supply rail) .sensor)
   unfolding effect

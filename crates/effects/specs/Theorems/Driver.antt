@@ -10,6 +10,7 @@ use lib.Seq.{getD-set-other}
 use lib.IntN.{ℤ}
 use Rattle.laws.specs.Iterate.{iterate}
 use Rattle.time.specs.declared.Time.{Time}
+use Rattle.analog.specs.Axis as A
 use Rattle.spi.specs.declared.types.Drive.{Drive}
 use Rattle.spi.specs.declared.types.Drive.the-variants as D
 use Rattle.time.specs.Time.{same}
@@ -76,7 +77,7 @@ module _ (input : Input) (needs : List ℕ) where
   unfolding Phase.axis-phase
   axis-keeps Off c phase small =
       scanned-keeps (Phase.measured c input (phase - 1)) (phase - 1) (eqb (phase - 1) 2) refl
-      ∙ code-keeps (c .registers) (phase - 1) (answered (c .sampling .filter) (phase - 1) (Phase.converted (c .registers) input (phase - 1))) (omega arith)
+      ∙ code-keeps (c .registers) (phase - 1) (answered (c .sampling .filter) (phase - 1) (Phase.converted (c .registers) (A.value (Phase.lagged c input (phase - 1))) (phase - 1))) (omega arith)
   axis-keeps (Phases left) c phase small = test-keeps c (eqb phase 3 && eqb left 0)
 
   phase-keeps : (c : Acquisition) (t : Bool) → eqb (Phase.phase-of (c .sampling .clock .ordinal)) 0 ≡ t → mode (Phase.sample-phase c input needs) ≡ mode c

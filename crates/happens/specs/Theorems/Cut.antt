@@ -25,6 +25,7 @@ use Rattle.sensor.specs.Record.{is-off}
 use Rattle.sensor.specs.Image.{cell-byte, with-cell, image-at, nonvolatile, power-on}
 use Rattle.sensor.specs.Select.{reselected, selected-to, may-select}
 use Rattle.samples.specs.Samples.{samples-run, write-end, next-deadline, interaction-deadline}
+use Rattle.waits.specs.Supply as Supply
 use Rattle.waits.specs.Supply.{cut, off, returned, supply-low, supply-ok, set-supply}
 use Rattle.bma150.specs.Called.{Added, adds, called, effect, leaves}
 use Rattle.book.specs.Lists.{accepts}
@@ -55,7 +56,7 @@ off-dark : (s : Sensor) (now : Time) → Dark (s .nonvolatile) (off s now true)
 unfolding is-set
 off-dark s now = record { off = refl; cold = refl; cells = deselected s }
 
-zero-cuts : (s : Sensor) (now : Time) → is-off s ≡ false → set-supply s 0 now .sensor ≡ off (cut (s .writing .operation) s now .sensor) now true
+zero-cuts : (s : Sensor) (now : Time) → is-off s ≡ false → set-supply s 0 now .sensor ≡ off (cut (s .writing .operation) (Supply.held s now) now .sensor) now true
 unfolding set-supply supply-low
 zero-cuts s now on = rw on
 
@@ -71,7 +72,7 @@ torn-cells t now image a x = with-cell image a (byte (cell-byte image a) x (cell
 module _ (t now : Time) {image : List ℕ} {selected : Bool} {a x : ℕ} {s : Sensor} (high : t .0 < 2 ^ 32) (low : t .1 < 2 ^ 64) (late : T.late now ≡ false)
     (since : ticks t ≤ ticks now) (within : ticks now < ticks t + write-length)
     (h : Asleep image selected s) (running : s .writing .operation ≡ Operation.Running (Cycle.start t) a x) where
-  cells-torn : cut (s .writing .operation) s now .sensor .nonvolatile ≡ torn-cells t now image a x
+  cells-torn : cut (s .writing .operation) (Supply.held s now) now .sensor .nonvolatile ≡ torn-cells t now image a x
   unfolding cut
   cells-torn = rw (running, h .cells)
 
@@ -80,11 +81,11 @@ module _ (t now : Time) {image : List ℕ} {selected : Bool} {a x : ℕ} {s : Se
 
   -- the sensor that 0 mV leaves
   abbrev pub dark : Sensor
-  dark = off (cut (s .writing .operation) s now .sensor) now true
+  dark = off (cut (s .writing .operation) (Supply.held s now) now .sensor) now true
 
   -- its cell is torn
   pub is-dark : Dark (torn-cells t now image a x) dark
-  is-dark = dark-as cells-torn (off-dark (cut (s .writing .operation) s now .sensor) now)
+  is-dark = dark-as cells-torn (off-dark (cut (s .writing .operation) (Supply.held s now) now .sensor) now)
 
   -- the supply call of 0 mV is accepted
   pub cut-goes : Goes (host t s) (Call.At now (Timed.Supply 0) ∷ []) (host now dark)

@@ -82,7 +82,8 @@ edge-mono a b p = div-mono (a * 2 ^ 64) (b * 2 ^ 64) 12000 (lit< tt) (mul-le-mul
 
 -- ---- edges before a limit, over any second of m units, any frequency f, a start s and a limit l
 module _ (m f s l : ℕ) (m-pos : 0 < m) (f-pos : 0 < f) where
-  within : (n : ℕ) → 0 < n → n ≤ (f * (l - s) - 1) / m → s + n * m / f < l
+  -- every number that is counted has its edge before the limit
+  pub within : (n : ℕ) → 0 < n → n ≤ (f * (l - s) - 1) / m → s + n * m / f < l
   within n z p =
       let h : n * m ≤ f * (l - s) - 1 = le-div-iff-mul-le m-pos .0 p in
       let k : 1 * m ≤ n * m = mul-le-mul-right m z in

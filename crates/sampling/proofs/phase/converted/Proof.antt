@@ -1,7 +1,7 @@
 use Prim.Native.Nat.{_^_}
 use mathlib.Core.Path.{sym, _∙_}
-use mir.Syntax.{w16, w32, w64}
-use Rattle.laws.specs.Signed.{Reach, holds, back}
+use mir.Syntax.{w16, w64}
+use Rattle.laws.specs.Signed.{Reach, back, of-fits}
 use Rattle.sampling.specs.Phase.{converted}
 use borrow.Author.Needs.{needs}
 use Rattle.sampling.proofs.phase.converted.Statement.{statement}
@@ -29,14 +29,6 @@ add-high c = search needs
 element-copy-out-high : tie.Need-element-copy-out-high
 element-copy-out-high c = search needs
 
-axis-input-requires : tie.Need-axis-input-requires
-axis-input-requires c κs = search needs
-
-cast-code : tie.Need-cast-code
-cast-code c =
-    let r : Reach (c .axis-input .result) (2 ^ 31) = record { reach = c .axis-input .ok } in
-    rw (back w32 r tt) (holds r tt)
-
 offset-requires : tie.Need-offset-requires
 offset-requires c κs = search needs
 
@@ -52,10 +44,10 @@ code-requires c κs = search needs
 returns-2 : tie.Need-returns-2
 unfolding converted
 returns-2 c =
-    let v = c .before .before .before .before .axis-input in
-    let r : Reach (v .result) (2 ^ 31) = record { reach = v .ok } in
+    let s = c .before .before .before .before .before .before .before .before .before in
+    let r = of-fits (s .fits .acceleration) in
     let k : Reach (c .code .result) (2 ^ 15) = record { reach = c .code .ok } in
-    rw (sym (c .before .before .before .before .before .before .before .before .has .ensures) ∙ c .before .before .before .before .before .before .before .if1 .left, back w16 k tt, c .code .ensures, c .before .range .ensures, c .before .before .before .offset .ensures, back w32 r tt, back w64 r tt, v .ensures)
+    rw (sym (c .before .before .before .before .before .before .before .has .ensures) ∙ c .before .before .before .before .before .before .if1 .left, back w16 k tt, c .code .ensures, c .before .range .ensures, c .before .before .before .offset .ensures, back w64 r tt)
 
 pub converted-spec : {M : Type 1} → statement M
 converted-spec =
@@ -68,8 +60,6 @@ converted-spec =
     element-copy-out-low
     add-high
     element-copy-out-high
-    axis-input-requires
-    cast-code
     offset-requires
     element-copy-out-range
     range-requires

@@ -1,84 +1,54 @@
 use Prim.Native.Nat.{_^_}
-use mathlib.Core.Path.{ap, _∙_}
-use mir.Syntax.{w16}
-use mir.Facts.{toZ-ofZ}
+use mir.Syntax.{w16, w64}
 use Rattle.laws.specs.Signed.{Reach, back}
-use Rattle.filter.specs.declared.Filter.{Filter}
-use Rattle.filter.specs.Filter.{pushed, answered}
-use Rattle.sampling.specs.Split.{joined}
-use Rattle.sampling.specs.Phase.{converted, shown}
+use mathlib.Core.Path.{refl, sym, _∙_}
 use borrow.Author.Needs.{needs}
 use Rattle.sampling.proofs.phase.measured.Statement.{statement}
 use Rattle.sampling.proofs.phase.measured.Tie as tie
+use Rattle.sampling.proofs.phase.measured.Reads as reads
+use Rattle.sampling.proofs.phase.measured.Lts as lts
+use Rattle.analog.proofs.types.Axis.value.Reads as value-reads
+use Rattle.sampling.proofs.phase.converted.Reads as converted-reads
+use Rattle.sampling.proofs.phase.filtered_code.Reads as filtered-code-reads
+use Rattle.sampling.proofs.phase.lagged.Reads as lagged-reads
+use Rattle.sampling.proofs.types.AcquisitionScalars.with_axis.Reads as with-axis-reads
 
+-- src/phase.rt:221:9
+lagged-requires : tie.Need-lagged-requires
+lagged-requires c κs = search needs
+
+-- src/phase.rt:222:34
+value-requires : tie.Need-value-requires
+value-requires c κs = search needs
+
+-- src/phase.rt:222:9
 converted-requires : tie.Need-converted-requires
 converted-requires c κs = search needs
 
-push-requires : tie.Need-push-requires
-push-requires c κs = search needs
+-- src/phase.rt:223:9
+with-axis-requires : tie.Need-with-axis-requires
+with-axis-requires c κs = search needs
 
-code-low-requires : tie.Need-code-low-requires
-code-low-requires c κs = search needs
+-- src/phase.rt:224:5
+filtered-code-requires : tie.Need-filtered-code-requires
+filtered-code-requires c κs = search needs
 
-mul-registers : tie.Need-mul-registers
-mul-registers c = search needs
-
-add-registers : tie.Need-add-registers
-add-registers c = search needs
-
-element-write-registers : tie.Need-element-write-registers
-element-write-registers c = search needs
-
-code-high-requires : tie.Need-code-high-requires
-code-high-requires c κs = search needs
-
-mul-registers-2 : tie.Need-mul-registers-2
-mul-registers-2 c = search needs
-
-add-registers-2 : tie.Need-add-registers-2
-add-registers-2 c = search needs
-
-element-write-registers-2 : tie.Need-element-write-registers-2
-element-write-registers-2 c = search needs
-
-mul-codes : tie.Need-mul-codes
-mul-codes c = search needs
-
-array-set-from-codes : tie.Need-array-set-from-codes
-array-set-from-codes c = search needs
-
-axis-requires : tie.Need-axis-requires
-axis-requires c κs = search needs
-
+-- src/phase.rt:211:1
 returns : tie.Need-returns
 returns c =
-    let a = c .before .before .before .before .before .before .before .before .before .before .before .before .before .args in
-    let d = joined (a .registers .now) (a .history .now) (a .t) in
-    let v = c .before .before .before .before .before .before .before .before .before .converted in
-    let p = c .before .before .before .before .before .before .before .before .push in
-    let t = c .before .before .before .before .before .before .before .struct-told .given in
-    let r : Reach (v .result) (2 ^ 15) = record { reach = v .ok } in
-    let b = toZ-ofZ {w = w16} {z = p .result .code} (record { sfits = t .1 .0 .1 }) in
-    let k = back w16 r tt ∙ v .ensures in
-    rw (c .axis .ensures, c .before .before .before .before .before .code-high .ensures, c .before .before .before .before .before .before .code-low .ensures, b)
-    (ap (λ (f : Filter). shown d (a .axis) f (p .result .code)) (p .ensures .0 ∙ ap (pushed (d .sampling .filter) (a .axis)) k)
-    ∙ ap (shown d (a .axis) (pushed (d .sampling .filter) (a .axis) (converted (a .registers .now) (a .input) (a .axis)))) (p .ensures .1 ∙ ap (answered (d .sampling .filter) (a .axis)) k))
+    let k = c .before .before .before .before .converted in
+    let v = c .before .before .before .before .before .value in
+    let r : Reach (k .result) (2 ^ 15) = record { reach = k .ok } in
+    let q : Reach (v .result) (2 ^ 63) = record { reach = v .ok } in
+    rw (c .filtered-code .ensures, c .before .before .before .with-axis .ensures, back w16 r tt, k .ensures, back w64 q tt, v .ensures, c .before .before .before .before .before .before .before .lagged .ensures)
 
 pub measured-spec : {M : Type 1} → statement M
 measured-spec =
     tie.close
     (tie.spec
+    lagged-requires
+    value-requires
     converted-requires
-    push-requires
-    code-low-requires
-    mul-registers
-    add-registers
-    element-write-registers
-    code-high-requires
-    mul-registers-2
-    add-registers-2
-    element-write-registers-2
-    mul-codes
-    array-set-from-codes
-    axis-requires
+    with-axis-requires
+    filtered-code-requires
     returns)
