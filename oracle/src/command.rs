@@ -18,6 +18,7 @@ pub enum Command {
     Pins { at: Time, levels: u8 },
     StoredImage { at: Time },
     View(u8),
+    StartStored { at: Time, image: [u8; IMAGE] },
 }
 
 /// What stands at the head of the input.
@@ -33,7 +34,7 @@ pub enum Decoded {
 /// Bytes of operands after the command byte.
 fn operands(code: u8) -> Option<usize> {
     Some(match code {
-        0x01 => TIME + IMAGE,
+        0x01 | 0x0c => TIME + IMAGE,
         0x02 => TIME + 12,
         0x03 => 4,
         0x04 => TIME + 2,
@@ -109,6 +110,10 @@ fn timed(code: u8, at: Time, rest: &[u8]) -> Option<Command> {
             levels: rest[0],
         },
         0x0a => Command::StoredImage { at },
+        0x0c => Command::StartStored {
+            at,
+            image: image(rest),
+        },
         _ => return None,
     })
 }
@@ -141,6 +146,7 @@ impl Command {
             Command::Pins { .. } => 0x09,
             Command::StoredImage { .. } => 0x0a,
             Command::View(_) => 0x0b,
+            Command::StartStored { .. } => 0x0c,
         }
     }
     pub fn time(&self) -> Option<Time> {
@@ -153,8 +159,13 @@ impl Command {
             | Command::Rising { at, .. }
             | Command::Falling { at }
             | Command::Pins { at, .. }
-            | Command::StoredImage { at } => Some(at),
+            | Command::StoredImage { at }
+            | Command::StartStored { at, .. } => Some(at),
         }
+    }
+    /// Whether it is a start, by 01 or by 0c.
+    pub fn starts(&self) -> bool {
+        matches!(self, Command::Start { .. } | Command::StartStored { .. })
     }
     /// Append the command's bytes. A time must lie below 2^32 s.
     pub fn encode(&self, out: &mut Vec<u8>) {
@@ -164,7 +175,9 @@ impl Command {
             out.extend_from_slice(&at.raw().to_be_bytes()[4..]);
         }
         match *self {
-            Command::Start { image, .. } => out.extend_from_slice(&image),
+            Command::Start { image, .. } | Command::StartStored { image, .. } => {
+                out.extend_from_slice(&image)
+            }
             Command::Accelerations { axes, .. } => {
                 axes.iter().for_each(|v| out.extend(v.to_be_bytes()))
             }

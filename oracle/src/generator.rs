@@ -15,7 +15,7 @@ mod strikes;
 
 use crate::{
     command::Command,
-    model::{Model, Refusal, TIME_LIMIT},
+    model::{reserved, Model, Refusal, MEASUREMENT, TIME_LIMIT},
     random::Random,
     time::Time,
 };
@@ -49,6 +49,8 @@ enum Pace {
 
 pub struct Generator {
     random: Random,
+    /// Decides how a sensor is started, and on nothing else.
+    starts: Random,
     model: Model,
     profile: &'static Profile,
     out: Vec<u8>,
@@ -73,13 +75,14 @@ pub struct Generator {
     codes: [i32; 3],
     /// The register that a sample at this very moment would set.
     tied: Option<u8>,
-    replies: [u64; 9],
+    replies: [u64; 10],
 }
 
 impl Generator {
     pub fn new(seed: u64, count: u64, profile: &'static Profile) -> Self {
         Self {
             random: Random::new(seed, profile.name),
+            starts: Random::new(seed, &format!("{} starts", profile.name)),
             model: Model::default(),
             profile,
             out: Vec::new(),
@@ -96,7 +99,7 @@ impl Generator {
             breaks_in: None,
             codes: [0; 3],
             tied: None,
-            replies: [0; 9],
+            replies: [0; 10],
         }
     }
 
@@ -132,7 +135,7 @@ impl Generator {
         self.phases
     }
     /// Replies by number: 0 accepted, then the refusals of the table.
-    pub fn replies(&self) -> [u64; 9] {
+    pub fn replies(&self) -> [u64; 10] {
         self.replies
     }
 
@@ -145,6 +148,9 @@ impl Generator {
     fn send(&mut self, command: Command) {
         if self.random.once_in(9) {
             self.refused();
+        }
+        if self.starts.once_in(60) {
+            self.reserved_start();
         }
         self.put(command);
     }
@@ -173,8 +179,8 @@ impl Generator {
     /// End with a command that cannot be read.
     fn unreadable(&mut self, kind: u64) {
         let bytes: &[u8] = match kind {
-            0 => &[self.random.pick(&[0, 0x0c, 0x10, 0x80, 0xff])],
-            1 => &[self.random.within(1, 11) as u8],
+            0 => &[self.random.pick(&[0, 0x1f, 0x10, 0x80, 0xff])],
+            1 => &[self.random.within(1, 12) as u8],
             _ => match self.random.below(3) {
                 0 => &[6, self.random.within(2, 255) as u8],
                 1 => &[7, 0, 0, 0, 0, 0, 0, 0, 0, 0, 0, 0, 0, 2],

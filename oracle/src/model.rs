@@ -12,6 +12,8 @@ use core::ops::ControlFlow;
 pub const AXIS_LIMIT: u32 = 1_000_000_000;
 /// The whole seconds of an accepted time are below this.
 pub const TIME_LIMIT: u128 = 1 << 96;
+/// Where an image has the byte of register 14: range and bandwidth.
+pub const MEASUREMENT: usize = 0x14 - 0x0b;
 
 #[derive(Clone, Copy, Debug, PartialEq, Eq)]
 pub enum Refusal {
@@ -23,6 +25,7 @@ pub enum Refusal {
     NotDue = 6,
     Command = 7,
     PinJump = 8,
+    ReservedCode = 9,
 }
 
 impl Refusal {
@@ -36,6 +39,7 @@ impl Refusal {
             Refusal::NotDue => "not-due",
             Refusal::Command => "command",
             Refusal::PinJump => "pin-jump",
+            Refusal::ReservedCode => "reserved-code",
         }
     }
 }
@@ -113,6 +117,12 @@ impl Events {
     }
 }
 
+/// Whether an image has range code 3 or bandwidth code 7, which are reserved.
+pub fn reserved(image: &[u8; IMAGE]) -> bool {
+    let byte = image[MEASUREMENT];
+    byte >> 3 & 3 == 3 || byte & 7 == 7
+}
+
 /// The levels before and after a report: clock, data.
 fn before(levels: u8) -> [bool; 2] {
     after(levels >> 2)
@@ -176,38 +186,47 @@ impl Model {
     }
 
     /// The first refusal of the table that applies, in the order
-    /// 3, 4, 2 or 8, 5, 6. Numbers 7 and 1 are met before a command exists.
+    /// 9, 3, 4, 2 or 8, 5, 6. Numbers 7 and 1 are met before a command exists.
     pub fn refusal(&self, command: &Command) -> Option<Refusal> {
         let at = command.time()?;
+        if matches!(command, Command::Start { image, .. } if reserved(image)) {
+            return Some(Refusal::ReservedCode);
+        }
         if at.raw() >= TIME_LIMIT {
             return Some(Refusal::TimeLimit);
         }
-        if matches!(command, Command::Start { .. }) {
+        if command.starts() {
             return None;
         }
         if at < self.last {
             return Some(Refusal::TimeBack);
         }
+        self.operand(command).or_else(|| self.moment(command, at))
+    }
+
+    /// Numbers 2 and 8: an axis out of range, levels that do not follow on.
+    fn operand(&self, command: &Command) -> Option<Refusal> {
         match command {
-            Command::StoredImage { .. } => return None,
-            Command::Accelerations { axes, .. } => {
-                if axes.iter().any(|v| v.unsigned_abs() > AXIS_LIMIT) {
-                    return Some(Refusal::AxisRange);
-                }
-            }
+            Command::Accelerations { axes, .. } => axes
+                .iter()
+                .any(|v| v.unsigned_abs() > AXIS_LIMIT)
+                .then_some(Refusal::AxisRange),
             Command::Pins { levels, .. } => {
-                if before(*levels) != self.lines {
-                    return Some(Refusal::PinJump);
-                }
+                (before(*levels) != self.lines).then_some(Refusal::PinJump)
             }
-            _ => {}
+            _ => None,
         }
+    }
+
+    /// Numbers 5 and 6: what is due comes first, or is not due.
+    fn moment(&self, command: &Command, at: Time) -> Option<Refusal> {
         let due = self.next_due();
-        if matches!(command, Command::Due { .. }) {
-            (due != Some(at)).then_some(Refusal::NotDue)
-        } else {
-            due.is_some_and(|due| due <= at)
-                .then_some(Refusal::DueFirst)
+        match command {
+            Command::StoredImage { .. } => None,
+            Command::Due { .. } => (due != Some(at)).then_some(Refusal::NotDue),
+            _ => due
+                .is_some_and(|due| due <= at)
+                .then_some(Refusal::DueFirst),
         }
     }
 
@@ -218,7 +237,7 @@ impl Model {
             return Ok(Err(refusal));
         }
         match *command {
-            Command::Start { at, image } => {
+            Command::Start { at, image } | Command::StartStored { at, image } => {
                 self.sensor = Bma150::from_nonvolatile(at, &image)?;
                 self.last = at;
                 self.lines = [true; 2];

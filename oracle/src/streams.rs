@@ -2,6 +2,7 @@
 use crate::{
     command::{decode, Command, Decoded},
     generator::STOCK,
+    model::Model,
     time::Time,
 };
 
@@ -20,16 +21,24 @@ pub fn commands(bytes: &[u8]) -> Vec<&[u8]> {
     commands
 }
 
+/// Whether a command is a start that is accepted: no state decides on that.
+fn starts(bytes: &[u8]) -> bool {
+    let Decoded::Command(command, _) = decode(bytes) else {
+        return false;
+    };
+    command.starts() && Model::default().refusal(&command).is_none()
+}
+
 /// The commands of a stream as they stand in a joined one. `started`: a start
 /// at time 0 with the stock image, where the bench program begins, goes before
-/// them unless they begin with a start. Only as the `last` part they keep what
+/// them unless they begin with an accepted start. Only as the `last` part they keep what
 /// cannot be read, since the program stops there.
 pub fn part(bytes: &[u8], started: bool, last: bool) -> Vec<Vec<u8>> {
     let readable = |bytes: &&[u8]| matches!(decode(bytes), Decoded::Command(..));
     let mut kept = commands(bytes);
     kept.retain(|bytes| last || readable(bytes));
     let mut part = Vec::new();
-    if started && kept.first().map(|bytes| bytes[0]) != Some(0x01) {
+    if started && !kept.first().is_some_and(|bytes| starts(bytes)) {
         let mut start = Vec::new();
         let at = Time::ZERO;
         Command::Start { at, image: STOCK }.encode(&mut start);

@@ -11,6 +11,7 @@ use Rattle.i2c.specs.declared.types.Levels.{Levels}
 use Rattle.calls.specs.declared.types.Outcome.{Outcome}
 use Rattle.calls.specs.declared.types.Timed.the-variants as Timed
 use Rattle.calls.specs.declared.types.Call.the-variants as Call
+use Rattle.calls.specs.declared.types.Starting.{Starting}
 use Rattle.calls.specs.Facts.{facts}
 use Rattle.calls.specs.Table as R
 use Rattle.calls.specs.Table.{wrong-length, first-found, refusal, unless-refused}
@@ -36,14 +37,14 @@ extra-unless n x image = go (eqb n 0)
     go false = refl
 
 -- a start: its own sensor where it is accepted, else the one before it
-module _ (sensor s : Bma150) (now : Time) (image : List ℕ) (n : ℕ) (p : n ≡ start-number now image) where
-  pub start-accepted : s ≡ after-start now image → eqb n 0 ≡ true → silent s n ≡ commanded sensor (Command.Start now) image
+module _ (sensor s : Bma150) (by : Starting) (now : Time) (image : List ℕ) (n : ℕ) (p : n ≡ start-number by now image) where
+  pub start-accepted : s ≡ after-start by now image → eqb n 0 ≡ true → silent s n ≡ commanded sensor (Command.Start by now) image
   unfolding commanded started
-  start-accepted q e = called-is p (q ∙ sym (ap (λ (b : Bool). cond b (after-start now image) sensor) (sym (ap (λ (k : ℕ). eqb k 0) p) ∙ e))) refl
+  start-accepted q e = called-is p (q ∙ sym (ap (λ (b : Bool). cond b (after-start by now image) sensor) (sym (ap (λ (k : ℕ). eqb k 0) p) ∙ e))) refl
 
-  pub start-refused : eqb n 0 ≡ false → silent sensor n ≡ commanded sensor (Command.Start now) image
+  pub start-refused : eqb n 0 ≡ false → silent sensor n ≡ commanded sensor (Command.Start by now) image
   unfolding commanded started
-  start-refused e = called-is p (sym (ap (λ (b : Bool). cond b (after-start now image) sensor) (sym (ap (λ (k : ℕ). eqb k 0) p) ∙ e))) refl
+  start-refused e = called-is p (sym (ap (λ (b : Bool). cond b (after-start by now image) sensor) (sym (ap (λ (k : ℕ). eqb k 0) p) ∙ e))) refl
 
 -- another length than 19
 pub wrong-buffer : (s : Bma150) (now : Time) (n : ℕ) → (n ≡ 19 → ⊥) → silent s 1 ≡ called s (Call.StoredImage now n)

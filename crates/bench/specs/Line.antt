@@ -8,6 +8,7 @@ use Rattle.laws.specs.Notation.{if_then_else_, Image}
 use Rattle.time.specs.declared.Time.{Time}
 use Rattle.commands.specs.declared.Command.{Command}
 use Rattle.commands.specs.declared.Command.the-variants as Command
+use Rattle.calls.specs.declared.types.Starting.{Starting}
 use Rattle.calls.specs.Table as R
 use Rattle.bma150.specs.declared.host.Bma150.{Bma150}
 use Rattle.bma150.specs.Values.{drive-letter, report-values, view-value}
@@ -24,12 +25,12 @@ abbrev pub silent : Bma150 → ℕ → Called
 silent s n = record { number = n; sensor = s; adds = Added.nothing }
 
 -- a start begins with a new sensor; a refused one touches none
-unfoldable pub started : Bma150 → Time → (image : Image) → Bma150
-started s t image = if eqb (start-number t image) 0 then after-start t image else s
+unfoldable pub started : Bma150 → Starting → Time → (image : Image) → Bma150
+started s by t image = if eqb (start-number by t image) 0 then after-start by t image else s
 
 -- a start, a call of the host, or refusal 7, which changes nothing
 unfoldable pub commanded : Bma150 → Command → (image : Image) → Called
-commanded s (Command.Start t) image = silent (started s t image) (start-number t image)
+commanded s (Command.Start by t) image = silent (started s by t image) (start-number by t image)
 commanded s (Command.Host c) image = called s c
 commanded s Command.Bad image = silent s R.command
 

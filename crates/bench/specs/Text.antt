@@ -49,7 +49,8 @@ word number =
     else if eqb number 5 then ascii "due-first"
     else if eqb number 6 then ascii "not-due"
     else if eqb number 7 then ascii "command"
-    else ascii "pin-jump"
+    else if eqb number 8 then ascii "pin-jump"
+    else ascii "reserved-code"
 
 -- ---- interrupt 0 or 1
 

@@ -2,3 +2,4 @@ pub mod Text
 pub mod Lawful
 pub mod Loop
 pub mod Whole
+pub mod Starts

@@ -25,9 +25,9 @@ use spi::types::Drive;
 use waits::types::Report;
 
 fn put_refusal(out: &mut [u8; 65536], o: usize, why: Refusal) -> usize
-    requires { ⌜ o + 12 ≤ 65536 ⌝ }
+    requires { ⌜ o + 13 ≤ 65536 ⌝ }
     ensures { λ r. ⌜ Put (now (out .entry)) o (T.word (R.refusal-number why)) (now (out .exit)) r ⌝ }
-    ensures { λ r. ⌜ r ≤ o + 12 ⌝ }
+    ensures { λ r. ⌜ r ≤ o + 13 ⌝ }
 {
     match why {
         Refusal::ImageLength => put_word(out, o, b"image-length"),
@@ -38,13 +38,14 @@ fn put_refusal(out: &mut [u8; 65536], o: usize, why: Refusal) -> usize
         Refusal::NotDue => put_word(out, o, b"not-due"),
         Refusal::Command => put_word(out, o, b"command"),
         Refusal::PinJump => put_word(out, o, b"pin-jump"),
+        Refusal::ReservedCode => put_word(out, o, b"reserved-code"),
     }
 }
 
 fn put_outcome(out: &mut [u8; 65536], o: usize, outcome: Outcome) -> usize
-    requires { ⌜ o + 12 ≤ 65536 ⌝ }
+    requires { ⌜ o + 13 ≤ 65536 ⌝ }
     ensures { λ r. ⌜ Put (now (out .entry)) o (T.word (R.number outcome)) (now (out .exit)) r ⌝ }
-    ensures { λ r. ⌜ r ≤ o + 12 ⌝ }
+    ensures { λ r. ⌜ r ≤ o + 13 ⌝ }
 {
     match outcome {
         Outcome::Accepted => put_word(out, o, b"ok"),

@@ -16,10 +16,12 @@ use bma150::host::Bma150;
 use bma150::lent::due_lent;
 use bma150::lent::pins_lent;
 use bma150::types::Answered;
+use bma150::types::Replied;
 use calls::table::is_accepted;
 use calls::types::Call;
 use calls::types::Outcome;
 use calls::types::Refusal;
+use calls::types::Starting;
 use calls::types::Timed;
 use commands::Command;
 use i2c::types::Levels;
@@ -38,20 +40,31 @@ fn silent(sensor: Bma150, outcome: Outcome) -> Reply
     }
 }
 
-// A start's image stands in the input; a refused start touches no sensor.
-fn start(sensor: Bma150, when: Time, input: &[u8], at: usize) -> Reply
+// The start of either command.
+fn begun(by: Starting, when: Time, image: &[u8]) -> Replied
+    ensures { λ r. ⌜ R.number (r .outcome) ≡ K.start-number by when (now (image .entry)) ⌝ }
+    ensures { λ r. ⌜ r .sensor ≡ K.after-start by when (now (image .entry)) ⌝ }
+{
+    match by {
+        Starting::Checked => Bma150::start(when, image),
+        Starting::Stored => Bma150::start_stored(when, image),
+    }
+}
+
+// A start's image stands in the input; a refused start leaves the running sensor.
+fn start(running: Bma150, by: Starting, when: Time, input: &[u8], at: usize) -> Reply
     requires { ⌜ at + 32 ≤ length (now input) ⌝ }
-    ensures { λ r. ⌜ L.replied r ≡ L.commanded sensor (Command.Start when) (D.image (drop at (now (input .entry)))) ⌝ }
+    ensures { λ r. ⌜ L.replied r ≡ L.commanded running (Command.Start by when) (D.image (drop at (now (input .entry)))) ⌝ }
 {
     let from = at + 13;
     let to = at + 32;
-    let reply = Bma150::start(when, &input[from..to]);
+    let reply = begun(by, when, &input[from..to]);
     let outcome = reply.outcome;
     let s = reply.sensor;
     if is_accepted(outcome) {
         return silent(s, outcome);
     }
-    silent(sensor, outcome)
+    silent(running, outcome)
 }
 
 // Supply and due calls report.
@@ -191,7 +204,7 @@ pub(crate) fn serve(sensor: Bma150, c: Command, input: &[u8], at: usize, lent: b
     ensures { λ r. ⌜ L.replied r ≡ L.commanded sensor c (D.image (drop at (now (input .entry)))) ⌝ }
 {
     match c {
-        Command::Start(t) => start(sensor, t, input, at),
+        Command::Start(by, t) => start(sensor, by, t, input, at),
         Command::Host(call) => host(sensor, call, lent),
         Command::Bad => silent(sensor, Outcome::Refused(Refusal::Command)),
     }

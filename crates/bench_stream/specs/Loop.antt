@@ -8,6 +8,7 @@ use lib.Dec.{ltb, eqb}
 use lib.ListN.{length, take, drop}
 use Rattle.laws.specs.Notation.{if_then_else_}
 use Rattle.sensor.specs.Image.{stock}
+use Rattle.calls.specs.declared.types.Starting.the-variants as Starting
 use Rattle.bma150.specs.declared.host.Bma150.{Bma150}
 use Rattle.bma150.specs.Called.{after-start}
 use Rattle.bench.specs.declared.Ran.{Ran}
@@ -16,7 +17,7 @@ use Rattle.bench_stream.specs.declared.Turn.{Turn}
 
 -- 01: it begins with the stock image at time 0
 abbrev pub beginning : Bma150
-beginning = after-start (record { 0 = 0; 1 = 0 }) stock
+beginning = after-start Starting.Checked (record { 0 = 0; 1 = 0 }) stock
 
 abbrev pub first : Turn
 first = record { at = 0; have = 0; over = false; stop = false; unread = false; unwritten = false; written = 0; sensor = beginning }

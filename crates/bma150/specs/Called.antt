@@ -1,18 +1,20 @@
 -- What a call leaves and answers, for all arguments.
-use Prim.Native.Nat.{ℕ}
+use Prim.Native.Nat.{ℕ, _-_}
 use mathlib.Core.Bool.{Bool, false}
 use mathlib.Core.List.{List, []}
 use mathlib.Core.Option.{Option}
-use lib.ListN.{length}
+use lib.ListN.{length, getD}
 use Rattle.laws.specs.Notation.{Image}
 use Rattle.time.specs.declared.Time.{Time}
 use Rattle.time.specs.Time.{time}
+use Rattle.registers.specs.Map.{measurement}
 use Rattle.spi.specs.declared.types.Drive.{Drive}
 use Rattle.deadlines.specs.Deadlines.{moment}
 use Rattle.calls.specs.declared.types.Timed.{Timed}
 use Rattle.calls.specs.declared.types.Timed.the-variants as Timed
 use Rattle.calls.specs.declared.types.Call.{Call}
 use Rattle.calls.specs.declared.types.Call.the-variants as Call
+use Rattle.calls.specs.declared.types.Starting.{Starting}
 use Rattle.calls.specs.Table.{refusal, start-refusal, unless-refused}
 use Rattle.sensor.specs.declared.types.Sensor.{Sensor}
 use Rattle.sensor.specs.Record.{with-lines}
@@ -31,18 +33,22 @@ use Rattle.waits.specs.Due.{at-deadline}
 use Rattle.bma150.specs.declared.host.Bma150.{Bma150}
 use Rattle.bma150.specs.Values.{report-values, view-value}
 
--- ---- a start: its number, and the sensor that it hands out
+-- ---- a start by command 01's call or by command 0c's: its number, and the sensor that it hands out
 
-abbrev pub start-number : (now : Time) (image : Image) → ℕ
-start-number now image = start-refusal now (length image)
+-- the byte of register 14 in an image, which has those of registers 0b to 1d; 0 where the image does not reach it
+abbrev pub measurement-of : (image : Image) → ℕ
+measurement-of image = getD image (measurement - 0x0b) 0
+
+abbrev pub start-number : Starting → (now : Time) (image : Image) → ℕ
+start-number by now image = start-refusal by now (length image) (measurement-of image)
 
 -- it sets the last accepted time
 abbrev pub started : (now : Time) (image : Image) → Bma150
 started now image = record { sensor = from-nonvolatile now image; last = now }
 
 -- a refused start's sensor is the stock image's at time 0
-unfoldable pub after-start : (now : Time) (image : Image) → Bma150
-after-start now image = unless-refused (start-number now image) (started (time 0) stock) (started now image)
+unfoldable pub after-start : Starting → (now : Time) (image : Image) → Bma150
+after-start by now image = unless-refused (start-number by now image) (started (time 0) stock) (started now image)
 
 -- ---- what an accepted call answers beside its number: a report, a viewed byte or its absence, the bytes put in the buffer
 

@@ -1,3 +1,4 @@
 pub mod Values
 pub mod Added
 pub mod Refused
+pub mod Starts

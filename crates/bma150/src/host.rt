@@ -6,6 +6,7 @@ ghost use Rattle.deadlines.specs.Deadlines.{moment};
 ghost use Rattle.calls.specs.Table as Table;
 ghost use Rattle.calls.specs.declared.types.Call.the-variants as Call;
 ghost use Rattle.calls.specs.declared.types.Timed.the-variants as Timed;
+ghost use Rattle.calls.specs.declared.types.Starting.the-variants as Starting;
 ghost use Rattle.bma150.specs.Values as Vals;
 ghost use Rattle.bma150.specs.Called as C;
 use crate::types::Replied;
@@ -15,6 +16,7 @@ use calls::table::refusal;
 use calls::table::start_refusal;
 use calls::types::Call;
 use calls::types::Outcome;
+use calls::types::Starting;
 use calls::types::Timed;
 use deadlines::Deadline;
 use i2c::types::Levels;
@@ -58,6 +60,16 @@ fn image_of(bytes: &[u8]) -> [u8; 19]
     image
 }
 
+// The byte of register 14 in lent bytes of an image.
+fn measurement_of(bytes: &[u8]) -> u8
+    ensures { λ r. ⌜ r ≡ C.measurement-of (now (bytes .entry)) ⌝ }
+{
+    if 9 < bytes.len() {
+        return bytes[9];
+    }
+    0
+}
+
 // An image in a lent buffer of 19 bytes.
 fn hand_out(buffer: &mut [u8], image: [u8; 19])
     requires { ⌜ length (now buffer) ≡ 19 ⌝ }
@@ -98,31 +110,47 @@ fn replied(r: Reported) -> Replied
     }
 }
 
+// A start by either call.
+fn started(by: Starting, when: Time, image: &[u8]) -> Replied
+    ensures { λ r. ⌜ Table.number (r .outcome) ≡ C.start-number by when (now (image .entry)) ⌝ }
+    ensures { λ r. ⌜ r .sensor ≡ C.after-start by when (now (image .entry)) ⌝ }
+{
+    let outcome = start_refusal(by, when, image.len(), measurement_of(image));
+    if is_accepted(outcome) {
+        let bytes = image_of(image);
+        let taken = Bma150 {
+            sensor: Sensor::from_nonvolatile(when, bytes),
+            last: when,
+        };
+        return Replied {
+            sensor: taken,
+            outcome: outcome,
+        };
+    }
+    let first = Bma150 {
+        sensor: Sensor::from_nonvolatile(Time(0, 0), stock()),
+        last: Time(0, 0),
+    };
+    Replied {
+        sensor: first,
+        outcome: outcome,
+    }
+}
+
 impl Bma150 {
     pub fn start(when: Time, image: &[u8]) -> Replied
-        ensures { λ r. ⌜ Table.number (r .outcome) ≡ C.start-number when (now (image .entry)) ⌝ }
-        ensures { λ r. ⌜ r .sensor ≡ C.after-start when (now (image .entry)) ⌝ }
+        ensures { λ r. ⌜ Table.number (r .outcome) ≡ C.start-number Starting.Checked when (now (image .entry)) ⌝ }
+        ensures { λ r. ⌜ r .sensor ≡ C.after-start Starting.Checked when (now (image .entry)) ⌝ }
     {
-        let outcome = start_refusal(when, image.len());
-        if is_accepted(outcome) {
-            let bytes = image_of(image);
-            let started = Bma150 {
-                sensor: Sensor::from_nonvolatile(when, bytes),
-                last: when,
-            };
-            return Replied {
-                sensor: started,
-                outcome: outcome,
-            };
-        }
-        let first = Bma150 {
-            sensor: Sensor::from_nonvolatile(Time(0, 0), stock()),
-            last: Time(0, 0),
-        };
-        Replied {
-            sensor: first,
-            outcome: outcome,
-        }
+        started(Starting::Checked, when, image)
+    }
+
+    // A start with an image that was stored: range code 3 and bandwidth code 7 are taken.
+    pub fn start_stored(when: Time, image: &[u8]) -> Replied
+        ensures { λ r. ⌜ Table.number (r .outcome) ≡ C.start-number Starting.Stored when (now (image .entry)) ⌝ }
+        ensures { λ r. ⌜ r .sensor ≡ C.after-start Starting.Stored when (now (image .entry)) ⌝ }
+    {
+        started(Starting::Stored, when, image)
     }
 
     // A timed call.

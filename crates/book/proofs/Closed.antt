@@ -42,6 +42,6 @@ seen-is s h (c ∷ cs) d =
     (ap (λ (k : Book). entries k cs) (p .entered) ∙ seen-is (step s c) (p .sound) cs (d .1))
 
 -- the writes are those that the definitions' own sensors make in the run
-pub writes-are : (b : Start) → start-number (b .time) (b .image) ≡ 0 → (cs : List Call) → Fractions cs → writes b cs ≡ written [] (seen (L.started b) cs)
+pub writes-are : (b : Start) → start-number (b .by) (b .time) (b .image) ≡ 0 → (cs : List Call) → Fractions cs → writes b cs ≡ written [] (seen (L.started b) cs)
 writes-are b p cs d =
     ap (λ (es : List Entry). written [] es) (ap (λ (k : Book). entries k cs) (start-book b p) ∙ seen-is (L.started b) (start-sound b p) cs d)

@@ -113,7 +113,7 @@ after-kept s (c ∷ cs) = after-kept (step s c) cs ∙ go (accepts s c) (step-ke
 
 pub started-kept : (b : Start) → started b .sensor .kept ≡ new-kept
 unfolding after-start T.unless-refused
-started-kept b = either (λ (x : Bma150). x .sensor .kept) (eqb (start-number (b .time) (b .image)) 0) _ _ _ refl refl
+started-kept b = either (λ (x : Bma150). x .sensor .kept) (eqb (start-number (b .by) (b .time) (b .image)) 0) _ _ _ refl refl
 
 -- what the sensor of a run keeps is the fold over its accepted calls
 pub kept-follows : (b : Start) (cs : List Call) → after (started b) cs .sensor .kept ≡ kept b cs

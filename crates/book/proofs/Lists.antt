@@ -101,22 +101,22 @@ booked-more k (c ∷ cs) ds = booked-more (entered k c) cs ds
 
 -- ---- an accepted start
 
-pub start-is : (b : Start) → start-number (b .time) (b .image) ≡ 0 → L.started b ≡ started (b .time) (b .image)
+pub start-is : (b : Start) → start-number (b .by) (b .time) (b .image) ≡ 0 → L.started b ≡ started (b .time) (b .image)
 unfolding after-start
 start-is b p = accepted-is _ _ _ (ap (λ (n : ℕ). eqb n 0) p)
 
-pub start-sound : (b : Start) → start-number (b .time) (b .image) ≡ 0 → Sound (core (L.started b .sensor))
+pub start-sound : (b : Start) → start-number (b .by) (b .time) (b .image) ≡ 0 → Sound (core (L.started b .sensor))
 unfolding is-set
 start-sound b p = subst (λ (x : Bma150). Sound (core (x .sensor))) (sym (start-is b p)) (record { fine = tt; warm = λ e. refl; deaf = λ e. refl })
 
-pub start-book : (b : Start) → start-number (b .time) (b .image) ≡ 0 → opened b ≡ read (L.started b)
+pub start-book : (b : Start) → start-number (b .by) (b .time) (b .image) ≡ 0 → opened b ≡ read (L.started b)
 unfolding running-of
 start-book b p =
     let e = start-is b p in
     ap (λ (x : Core). book (x .cells) (running-of (x .writing .operation)) (struck (L.started b))) (sym (ap (λ (x : Bma150). core (x .sensor)) e))
 
 -- after every list, not only one that ends in a return, the book's cells and running write are the sensor's
-pub book-follows : (b : Start) → start-number (b .time) (b .image) ≡ 0 → (cs : List Call) → Fractions cs → booked (opened b) cs ≡ read (after (L.started b) cs)
+pub book-follows : (b : Start) → start-number (b .by) (b .time) (b .image) ≡ 0 → (cs : List Call) → Fractions cs → booked (opened b) cs ≡ read (after (L.started b) cs)
 book-follows b p cs d = ap (λ (k : Book). booked k cs) (start-book b p) ∙ ran (L.started b) (start-sound b p) cs d .booked
 
 -- ---- a list that ends in a return from 0 mV

@@ -92,7 +92,7 @@ after-stands s (c ∷ cs) h = after-stands (step s c) cs (step-stands s c h)
 -- a start rests at its time, a refused one at 0
 started-stands : (b : Start) → Stands (started b)
 unfolding after-start T.unless-refused
-started-stands b = go (eqb (start-number (b .time) (b .image)) 0)
+started-stands b = go (eqb (start-number (b .by) (b .time) (b .image)) 0)
   where
     go : (a : Bool) → Stands (cond a (Called.started (b .time) (b .image)) (Called.started (time 0) stock))
     go true = rest-upto (b .time)

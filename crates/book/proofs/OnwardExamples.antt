@@ -12,6 +12,7 @@ use Rattle.deadlines.specs.Deadlines as DD
 use Rattle.calls.specs.declared.types.Timed.the-variants as Timed
 use Rattle.calls.specs.declared.types.Call.{Call}
 use Rattle.calls.specs.declared.types.Call.the-variants as Call
+use Rattle.calls.specs.declared.types.Starting.the-variants as Starting
 use Rattle.calls.specs.Facts as TF
 use Rattle.calls.specs.Table as T
 use Rattle.control.specs.Lengths.{acquisition-delay}
@@ -31,7 +32,7 @@ use Rattle.book.specs.Lists.{Start, started, after, accepted}
 
 -- the stock sensor at time 0
 abbrev stock-start : Start
-stock-start = record { time = time 0; image = stock }
+stock-start = record { by = Starting.Checked; time = time 0; image = stock }
 
 -- x is pushed to half a g; y and z stay at 0 and 1 g, as from the start
 abbrev push : Call
@@ -56,7 +57,7 @@ pub record Pushed : Type 0 where
   pub y-moved : lost .sensor .sampling .analog .y .at ≡ lost .last
 
 pub push-and-cut : Pushed
-unfolding after accepted C.after-start C.effect C.leaves T.unless-refused T.start-refusal T.refusal T.first-found T.wrong-length T.beyond T.any-beyond T.out-of-range T.jumps T.late T.too-late T.goes-back T.due-by T.before-due T.due-at T.beside-due TF.timed-facts TF.facts DD.is-set DD.is-at DD.is-by DD.sooner DD.first DD.earliest BS.samples-run BS.next-sample BS.write-end BS.sample-due BS.next-deadline BS.samples-on-demand BS.sync-local-until BU.turned BU.cut BU.supply-low BU.set-supply ST.turned ST.held A.all-turned A.turned A.held BL.selected-to BL.may-select SF.differs
+unfolding after accepted C.after-start C.effect C.leaves T.unless-refused T.reserved T.turned-down T.start-refusal T.refusal T.first-found T.wrong-length T.beyond T.any-beyond T.out-of-range T.jumps T.late T.too-late T.goes-back T.due-by T.before-due T.due-at T.beside-due TF.timed-facts TF.facts DD.is-set DD.is-at DD.is-by DD.sooner DD.first DD.earliest BS.samples-run BS.next-sample BS.write-end BS.sample-due BS.next-deadline BS.samples-on-demand BS.sync-local-until BU.turned BU.cut BU.supply-low BU.set-supply ST.turned ST.held A.all-turned A.turned A.held BL.selected-to BL.may-select SF.differs
 push-and-cut =
     record {
       both-accepted = refl;
@@ -82,5 +83,5 @@ pub record Sampled : Type 0 where
   pub z-at-edge : after (started stock-start) sampled .sensor .sampling .analog .z .at ≡ edge wake 8
 
 pub sampled-at-edges : Sampled
-unfolding after accepted C.after-start C.effect C.leaves T.unless-refused T.start-refusal T.refusal T.first-found T.wrong-length T.beyond T.any-beyond T.out-of-range T.jumps T.late T.too-late T.goes-back T.due-by T.before-due T.due-at T.beside-due TF.timed-facts TF.facts DD.is-set DD.is-at DD.is-by DD.sooner DD.first DD.earliest BS.samples-run BS.next-sample BS.write-end BS.sample-due BS.next-deadline BS.samples-on-demand BS.sync-local-until BS.caught-up BS.limit DD.unless-at BD.pause-ended BD.write-ended BD.image-ended BD.wake-ended BD.sample-ended BC.automatic-control BE.fall-synced BE.falling-effect BE.spi-listens BE.moved SF.shifts SF.moves SF.fetches SF.moved LI.iterate A.axis-of A.with-axis SP.scanned SP.observing SP.observed SP.test-counted SP.axis-phase SP.sample-phase SP.ticks-now SP.ticked SP.sample
+unfolding after accepted C.after-start C.effect C.leaves T.unless-refused T.reserved T.turned-down T.start-refusal T.refusal T.first-found T.wrong-length T.beyond T.any-beyond T.out-of-range T.jumps T.late T.too-late T.goes-back T.due-by T.before-due T.due-at T.beside-due TF.timed-facts TF.facts DD.is-set DD.is-at DD.is-by DD.sooner DD.first DD.earliest BS.samples-run BS.next-sample BS.write-end BS.sample-due BS.next-deadline BS.samples-on-demand BS.sync-local-until BS.caught-up BS.limit DD.unless-at BD.pause-ended BD.write-ended BD.image-ended BD.wake-ended BD.sample-ended BC.automatic-control BE.fall-synced BE.falling-effect BE.spi-listens BE.moved SF.shifts SF.moves SF.fetches SF.moved LI.iterate A.axis-of A.with-axis SP.scanned SP.observing SP.observed SP.test-counted SP.axis-phase SP.sample-phase SP.ticks-now SP.ticked SP.sample
 sampled-at-edges = record { both-accepted = refl; z-at-edge = advanced-at _ (edge wake 8) _ }

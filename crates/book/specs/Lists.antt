@@ -13,6 +13,7 @@ use Rattle.calls.specs.declared.types.Timed.{Timed}
 use Rattle.calls.specs.declared.types.Timed.the-variants as Timed
 use Rattle.calls.specs.declared.types.Call.{Call}
 use Rattle.calls.specs.declared.types.Call.the-variants as Call
+use Rattle.calls.specs.declared.types.Starting.{Starting}
 use Rattle.sensor.specs.declared.types.Kept.{Kept}
 use Rattle.sensor.specs.Image.{new-kept}
 use Rattle.samples.specs.Samples.{interaction-deadline}
@@ -71,12 +72,14 @@ answer s c = record {
 
 -- ---- a start and a list of calls
 
+-- by command 01's call or by command 0c's
 pub record Start : Type 0 where
+  pub by : Starting
   pub time : Time
   pub image : List ℕ
 
 abbrev pub started : Start → Bma150
-started b = after-start (b .time) (b .image)
+started b = after-start (b .by) (b .time) (b .image)
 
 -- each call gets the sensor that the call before it returned or left
 unfoldable pub after : Bma150 → List Call → Bma150
@@ -115,7 +118,7 @@ kept b cs = last-kept new-kept (accepted (started b) cs)
 -- ---- the start is accepted, and a list cs is followed by an accepted supply call at `now` that comes back from 0 mV
 pub record Returns (b : Start) (cs : List Call) (now : Time) (rail : ℕ) : Type 0 where
   pub fractions : Fractions cs
-  pub start-accepted : start-number (b .time) (b .image) ≡ 0
+  pub start-accepted : start-number (b .by) (b .time) (b .image) ≡ 0
   pub supply-accepted : accepts (after (started b) cs) (Call.At now (Timed.Supply rail)) ≡ true
   pub with-supply : leb 2400 rail ≡ true
   pub from-zero : met-zero false (accepted (started b) cs) ≡ true

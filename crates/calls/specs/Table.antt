@@ -8,10 +8,13 @@ use lib.Signed.{ltZ}
 use Rattle.laws.specs.Notation.{if_then_else_}
 use Rattle.time.specs.declared.Time.{Time}
 use Rattle.time.specs.Time.{precedes}
+use Rattle.registers.specs.Map.{range, bandwidth}
 use Rattle.i2c.specs.declared.types.Levels.{Levels}
 use Rattle.deadlines.specs.declared.Deadline.{Deadline}
 use Rattle.deadlines.specs.Deadlines.{is-at, is-by}
 use Rattle.calls.specs.declared.types.Call.{Call}
+use Rattle.calls.specs.declared.types.Starting.{Starting}
+use Rattle.calls.specs.declared.types.Starting.the-variants as Starting
 use Rattle.calls.specs.declared.types.Refusal.{Refusal}
 use Rattle.calls.specs.declared.types.Refusal.the-variants as Refusal
 use Rattle.calls.specs.declared.types.Outcome.{Outcome}
@@ -27,7 +30,7 @@ use Rattle.calls.specs.declared.types.Axes.the-variants as Axes
 use Rattle.calls.specs.declared.types.Lines.{Lines}
 use Rattle.calls.specs.declared.types.Lines.the-variants as Lines
 use Rattle.calls.specs.declared.types.Facts.{Facts}
-use Rattle.calls.specs.Facts.{bringing, facts}
+use Rattle.calls.specs.Facts.{facts}
 
 -- ---- 01's table: a number for each refusal, 0 where a call is accepted
 
@@ -60,6 +63,10 @@ command = 7
 abbrev pub pin-jump : ℕ
 pin-jump = 8
 
+-- a start image with a reserved code
+abbrev pub reserved-code : ℕ
+reserved-code = 9
+
 -- the number of a refusal, and of what a call answers
 unfoldable pub refusal-number : Refusal → ℕ
 refusal-number Refusal.ImageLength = image-length
@@ -70,6 +77,7 @@ refusal-number Refusal.DueFirst = due-first
 refusal-number Refusal.NotDue = not-due
 refusal-number Refusal.Command = command
 refusal-number Refusal.PinJump = pin-jump
+refusal-number Refusal.ReservedCode = reserved-code
 
 unfoldable pub number : Outcome → ℕ
 number Outcome.Accepted = no-refusal
@@ -134,6 +142,14 @@ unfoldable pub jumps : (lines : Levels) → Lines → Bool
 jumps lines (Lines.Before before) = not (same-levels lines before)
 jumps lines Lines.Unreported = false
 
+-- 9: range code 3 or bandwidth code 7 in the byte of register 14, which the data sheet reserves; asked by command 01's start alone
+unfoldable pub reserved : (measurement : ℕ) → Bool
+reserved measurement = eqb (range measurement) 3 || eqb (bandwidth measurement) 7
+
+unfoldable pub turned-down : Starting → (measurement : ℕ) → Bool
+turned-down Starting.Checked measurement = reserved measurement
+turned-down Starting.Stored measurement = false
+
 -- ---- which refusal a call gets: the first found
 
 -- a row: a number and a test
@@ -170,15 +186,23 @@ rows =
 unfoldable pub refusal : (last : Time) (due : Deadline) (lines : Levels) → Call → ℕ
 refusal last due lines c = first-found rows (record { last = last; due = due; lines = lines; call = facts c })
 
--- 01: a start has 1 and 3
-abbrev pub start-rows : List (Row Facts)
+-- what a start meets: by which call, its time, the length of the image and its byte of register 14
+pub record Brings : Type 0 where
+  pub by : Starting
+  pub time : Time
+  pub length : ℕ
+  pub measurement : ℕ
+
+-- a start: 1, 9, 3
+abbrev pub start-rows : List (Row Brings)
 start-rows =
-    row image-length (λ f. wrong-length (f .bytes))
-    ∷ row time-limit (λ f. too-late (f .time))
+    row image-length (λ b. wrong-length (Bytes.Count (b .length)))
+    ∷ row reserved-code (λ b. turned-down (b .by) (b .measurement))
+    ∷ row time-limit (λ b. late (b .time))
     ∷ []
 
-unfoldable pub start-refusal : (now : Time) (length : ℕ) → ℕ
-start-refusal now length = first-found start-rows (bringing now length)
+unfoldable pub start-refusal : Starting → (now : Time) (length measurement : ℕ) → ℕ
+start-refusal by now length measurement = first-found start-rows (record { by = by; time = now; length = length; measurement = measurement })
 
 -- what a call leaves: a refused one what came in
 unfoldable pub unless-refused : {A : Type 0} (number : ℕ) (before after : A) → A

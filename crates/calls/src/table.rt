@@ -12,9 +12,12 @@ use crate::types::Kind;
 use crate::types::Lines;
 use crate::types::Outcome;
 use crate::types::Refusal;
+use crate::types::Starting;
 use crate::types::Timed;
 use deadlines::Deadline;
 use i2c::types::Levels;
+use registers::fields::bandwidth;
+use registers::fields::range;
 use time::Time;
 
 // A timed call with nothing more to ask of it.
@@ -264,14 +267,37 @@ pub fn refusal(last: Time, due: Deadline, lines: Levels, c: Call) -> Outcome
     Outcome::Accepted
 }
 
-// The refusal of a start.
-pub fn start_refusal(now: Time, length: usize) -> Outcome
-    ensures { λ r. ⌜ Table.number r ≡ Table.start-refusal now length ⌝ }
+// A byte of register 14 with a code that is reserved.
+fn reserved(measurement: u8) -> bool
+    ensures { λ r. ⌜ r ≡ Table.reserved measurement ⌝ }
+{
+    if range(measurement) == 3 {
+        return true;
+    }
+    bandwidth(measurement) == 7
+}
+
+// 9.
+fn turned_down(by: Starting, measurement: u8) -> bool
+    ensures { λ r. ⌜ r ≡ Table.turned-down by measurement ⌝ }
+{
+    match by {
+        Starting::Checked => reserved(measurement),
+        Starting::Stored => false,
+    }
+}
+
+// The refusal of a start with an image of this length and this byte of register 14.
+pub fn start_refusal(by: Starting, now: Time, length: usize, measurement: u8) -> Outcome
+    ensures { λ r. ⌜ Table.number r ≡ Table.start-refusal by now length measurement ⌝ }
 {
     if wrong_length(Bytes::Count(length)) {
         return Outcome::Refused(Refusal::ImageLength);
     }
-    if too_late(Dated::At(now)) {
+    if turned_down(by, measurement) {
+        return Outcome::Refused(Refusal::ReservedCode);
+    }
+    if late(now) {
         return Outcome::Refused(Refusal::TimeLimit);
     }
     Outcome::Accepted

@@ -21,6 +21,12 @@ pub enum Call {
     StoredImage(Time, usize),
 }
 
+// By which call a sensor is started: command 01's, or command 0c's, which takes any image.
+pub enum Starting {
+    Checked,
+    Stored,
+}
+
 // Why a call is refused (01's table).
 pub enum Refusal {
     ImageLength,
@@ -31,6 +37,7 @@ pub enum Refusal {
     NotDue,
     Command,
     PinJump,
+    ReservedCode,
 }
 
 // Accepted, or refused and why.

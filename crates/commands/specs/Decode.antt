@@ -12,6 +12,8 @@ use Rattle.calls.specs.declared.types.Timed.{Timed}
 use Rattle.calls.specs.declared.types.Timed.the-variants as Timed
 use Rattle.calls.specs.declared.types.Call.{Call}
 use Rattle.calls.specs.declared.types.Call.the-variants as Call
+use Rattle.calls.specs.declared.types.Starting.{Starting}
+use Rattle.calls.specs.declared.types.Starting.the-variants as Starting
 use Rattle.commands.specs.declared.Command.{Command}
 use Rattle.commands.specs.declared.Command.the-variants as Command
 
@@ -69,9 +71,9 @@ either-of b low high = if eqb b 0 then low else if eqb b 1 then high else Comman
 
 -- ---- the commands
 
--- 01 start T, 19 bytes
-unfoldable pub start : List ℕ → Command
-start l = within 32 l (Command.Start (moment-at 1 l))
+-- 01 start T, 19 bytes; 0c the same with an image that was stored
+unfoldable pub start : Starting → List ℕ → Command
+start by l = within 32 l (Command.Start by (moment-at 1 l))
 
 -- the 19 bytes of a start
 abbrev pub image : List ℕ → List ℕ
@@ -123,7 +125,11 @@ view l = within 2 l (Command.Host (Call.View (byte-at 1 l)))
 
 -- ---- which command the byte c begins; an unknown byte is a bad command (refusal 7)
 
--- 06 to 0b
+-- from 0c on
+unfoldable pub decode-from-0c : ℕ → List ℕ → Command
+decode-from-0c c l = if eqb c 0x0c then start Starting.Stored l else Command.Bad
+
+-- 06 to 0b; another byte goes to the definition above
 unfoldable pub decode-06-to-0b : ℕ → List ℕ → Command
 decode-06-to-0b c l =
     if eqb c 0x06 then select l
@@ -132,12 +138,12 @@ decode-06-to-0b c l =
     else if eqb c 0x09 then pins l
     else if eqb c 0x0a then stored-image l
     else if eqb c 0x0b then view l
-    else Command.Bad
+    else decode-from-0c c l
 
 -- 01 to 05; another byte goes to the definition above
 unfoldable pub decode-01-to-05 : ℕ → List ℕ → Command
 decode-01-to-05 c l =
-    if eqb c 0x01 then start l
+    if eqb c 0x01 then start Starting.Checked l
     else if eqb c 0x02 then accelerations l
     else if eqb c 0x03 then temperature l
     else if eqb c 0x04 then supply l
@@ -150,7 +156,11 @@ decoded l = if ltb 0 (length l) then decode-01-to-05 (byte-at 0 l) l else Comman
 
 -- ---- how many bytes a command has that begins with the byte c; an unknown byte is whole at once
 
--- 06 to 0b
+-- from 0c on
+unfoldable pub wants-from-0c : ℕ → ℕ
+wants-from-0c c = if eqb c 0x0c then 32 else 1
+
+-- 06 to 0b; another byte goes to the definition above
 unfoldable pub wants-06-to-0b : ℕ → ℕ
 wants-06-to-0b c =
     if eqb c 0x06 then 2
@@ -159,7 +169,7 @@ wants-06-to-0b c =
     else if eqb c 0x09 then 14
     else if eqb c 0x0a then 13
     else if eqb c 0x0b then 2
-    else 1
+    else wants-from-0c c
 
 -- 01 to 05; another byte goes to the definition above
 unfoldable pub wants : ℕ → ℕ
@@ -192,12 +202,12 @@ call-size (Call.StoredImage t n) = 13
 
 -- how many bytes a command is; a bad one takes its first
 unfoldable pub size : Command → ℕ
-size (Command.Start t) = 32
+size (Command.Start by t) = 32
 size (Command.Host c) = call-size c
 size Command.Bad = 1
 
 -- refusal 7
 unfoldable pub is-bad : Command → Bool
-is-bad (Command.Start t) = false
+is-bad (Command.Start by t) = false
 is-bad (Command.Host c) = false
 is-bad Command.Bad = true

@@ -13,6 +13,8 @@ use Rattle.calls.specs.declared.types.Timed.{Timed}
 use Rattle.calls.specs.declared.types.Timed.the-variants as Timed
 use Rattle.calls.specs.declared.types.Call.{Call}
 use Rattle.calls.specs.declared.types.Call.the-variants as Call
+use Rattle.calls.specs.declared.types.Starting.{Starting}
+use Rattle.calls.specs.declared.types.Starting.the-variants as Starting
 use Rattle.commands.specs.declared.Command.{Command}
 use Rattle.commands.specs.declared.Command.the-variants as Command
 
@@ -63,9 +65,14 @@ call-bytes (Call.Select on) = 0x06 ∷ weighed on 1 ∷ []
 call-bytes (Call.View address) = 0x0b ∷ bytes 1 address
 call-bytes (Call.StoredImage t n) = 0x0a ∷ time-bytes t
 
+-- 01 and 0c
+unfoldable pub start-byte : Starting → ℕ
+start-byte Starting.Checked = 0x01
+start-byte Starting.Stored = 0x0c
+
 -- a command, with the 19 bytes of a start; ff is one of the bytes that begin no command
 unfoldable pub encoded : Command → (image : Image) → List ℕ
-encoded (Command.Start t) image = 0x01 ∷ (time-bytes t ++ image)
+encoded (Command.Start by t) image = start-byte by ∷ (time-bytes t ++ image)
 encoded (Command.Host c) image = call-bytes c
 encoded Command.Bad image = 0xff ∷ []
 
@@ -98,6 +105,6 @@ Call-fits (Call.StoredImage t n) = Time-fits t × (n ≡ 19)
 
 -- a command whose operands fit its fields; a start has 19 bytes
 unfoldable pub Fits : Command → (image : Image) → Type 0
-Fits (Command.Start t) image = Time-fits t × (length image ≡ 19)
+Fits (Command.Start by t) image = Time-fits t × (length image ≡ 19)
 Fits (Command.Host c) image = Call-fits c
 Fits Command.Bad image = Unit {0}

@@ -4,13 +4,14 @@ ghost use Prim.Native.Nat.{_+_, _≤_, _<_, _^_};
 ghost use lib.ListN.{length, drop};
 ghost use Rattle.commands.specs.Decode as D;
 use calls::types::Call;
+use calls::types::Starting;
 use calls::types::Timed;
 use i2c::types::Levels;
 use time::Time;
 
 // A start, whose image stays in the input; a call of the host; or no command of the list.
 pub enum Command {
-    Start(Time),
+    Start(Starting, Time),
     Host(Call),
     Bad,
 }
@@ -74,15 +75,15 @@ fn levels(b: u8, scl: u8, sda: u8) -> Levels
     }
 }
 
-fn start(input: &[u8], at: usize) -> Command
+fn start(by: Starting, input: &[u8], at: usize) -> Command
     requires { ⌜ at ≤ length (now input) ⌝ }
-    ensures { λ r. ⌜ r ≡ D.start (drop at (now (input .entry))) ⌝ }
+    ensures { λ r. ⌜ r ≡ D.start by (drop at (now (input .entry))) ⌝ }
 {
     if input.len() - at < 32 {
         return Command::Bad;
     }
     let t = moment(input, at + 1);
-    Command::Start(t)
+    Command::Start(by, t)
 }
 
 fn accelerations(input: &[u8], at: usize) -> Command
@@ -215,7 +216,18 @@ fn view(input: &[u8], at: usize) -> Command
     Command::Host(Call::View(input[at + 1]))
 }
 
-// Commands 06 to 0b.
+// Commands from 0c on; no other byte begins a command.
+fn decode_from_0c(c: u8, input: &[u8], at: usize) -> Command
+    requires { ⌜ at ≤ length (now input) ⌝ }
+    ensures { λ r. ⌜ r ≡ D.decode-from-0c c (drop at (now (input .entry))) ⌝ }
+{
+    if c == 12 {
+        return start(Starting::Stored, input, at);
+    }
+    Command::Bad
+}
+
+// Commands 06 to 0b; another byte goes to `decode_from_0c`.
 fn decode_06_to_0b(c: u8, input: &[u8], at: usize) -> Command
     requires { ⌜ at ≤ length (now input) ⌝ }
     ensures { λ r. ⌜ r ≡ D.decode-06-to-0b c (drop at (now (input .entry))) ⌝ }
@@ -238,7 +250,7 @@ fn decode_06_to_0b(c: u8, input: &[u8], at: usize) -> Command
     if c == 11 {
         return view(input, at);
     }
-    Command::Bad
+    decode_from_0c(c, input, at)
 }
 
 // Commands 01 to 05; another byte goes to `decode_06_to_0b`.
@@ -247,7 +259,7 @@ fn decode_01_to_05(c: u8, input: &[u8], at: usize) -> Command
     ensures { λ r. ⌜ r ≡ D.decode-01-to-05 c (drop at (now (input .entry))) ⌝ }
 {
     if c == 1 {
-        return start(input, at);
+        return start(Starting::Checked, input, at);
     }
     if c == 2 {
         return accelerations(input, at);
@@ -306,7 +318,7 @@ pub fn size(c: Command) -> usize
     ensures { λ r. ⌜ r ≡ D.size c ⌝ }
 {
     match c {
-        Command::Start(_) => 32,
+        Command::Start(_, _) => 32,
         Command::Host(call) => call_size(call),
         Command::Bad => 1,
     }
@@ -317,10 +329,19 @@ pub fn is_bad(c: Command) -> bool
     ensures { λ r. ⌜ r ≡ D.is-bad c ⌝ }
 {
     match c {
-        Command::Start(_) => false,
+        Command::Start(_, _) => false,
         Command::Host(_) => false,
         Command::Bad => true,
     }
+}
+
+fn wants_from_0c(c: u8) -> usize
+    ensures { λ r. ⌜ r ≡ D.wants-from-0c c ⌝ }
+{
+    if c == 12 {
+        return 32;
+    }
+    1
 }
 
 fn wants_06_to_0b(c: u8) -> usize
@@ -344,7 +365,7 @@ fn wants_06_to_0b(c: u8) -> usize
     if c == 11 {
         return 2;
     }
-    1
+    wants_from_0c(c)
 }
 
 // How many bytes a command has that begins with this byte.

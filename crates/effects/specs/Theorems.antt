@@ -3,3 +3,4 @@ pub mod Driver
 pub mod Stage
 pub mod Onward
 pub mod Moves
+pub mod Reserved

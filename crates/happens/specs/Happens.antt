@@ -16,7 +16,7 @@ use Rattle.book.specs.Claim.{ending, stored-bytes}
 -- an accepted start, a cell 2b..3d hex, a byte, and a moment below the time limit from the start on and before a write from there would end
 pub record Wanted (b : Start) (address value : ℕ) (at : Time) : Type 0 where
   pub start-fraction : b .time .1 < 2 ^ 64
-  pub start-accepted : start-number (b .time) (b .image) ≡ 0
+  pub start-accepted : start-number (b .by) (b .time) (b .image) ≡ 0
   pub first-cell : 0x2b ≤ address
   pub last-cell : address ≤ 0x3d
   pub is-byte : value < 256

@@ -8,6 +8,7 @@ use lib.ListN.{length, getD}
 use Rattle.time.specs.declared.Time.{Time}
 use Rattle.calls.specs.declared.types.Call.{Call}
 use Rattle.calls.specs.declared.types.Call.the-variants as Call
+use Rattle.calls.specs.declared.types.Starting.{Starting}
 use Rattle.samples.specs.Samples.{interaction-deadline}
 use Rattle.bma150.specs.declared.host.Bma150.{Bma150}
 use Rattle.bma150.specs.Called.{Called, called, start-number, after-start, interrupt, output, data-output}
@@ -75,24 +76,24 @@ module _ (s t : Bma150) (alike : Alike s t) where
   -- ---- a command
 
   -- a start: the same new sensor, or the old ones
-  module _ (now : Time) (bytes : List ℕ) where
-    started-shows : (x : Bool) → Shows (cond x (after-start now bytes) s) (cond x (after-start now bytes) t)
-    started-shows true = itself (after-start now bytes)
+  module _ (by : Starting) (now : Time) (bytes : List ℕ) where
+    started-shows : (x : Bool) → Shows (cond x (after-start by now bytes) s) (cond x (after-start by now bytes) t)
+    started-shows true = itself (after-start by now bytes)
     started-shows false = shown
 
-    started-alike : (x : Bool) → Alike (cond x (after-start now bytes) s) (cond x (after-start now bytes) t)
+    started-alike : (x : Bool) → Alike (cond x (after-start by now bytes) s) (cond x (after-start by now bytes) t)
     started-alike true cs = refl
     started-alike false cs = alike cs
 
   step-alike : (c : Command) (bytes : List ℕ) → Alike (L.step s c bytes) (L.step t c bytes)
   unfolding L.commanded L.started
-  step-alike (Command.Start now) bytes = started-alike now bytes (eqb (start-number now bytes) 0)
+  step-alike (Command.Start by now) bytes = started-alike by now bytes (eqb (start-number by now bytes) 0)
   step-alike (Command.Host c) bytes = stepped c
   step-alike Command.Bad bytes = alike
 
   said-alike : (trace : Bool) (b : ℕ) (c : Command) (bytes : List ℕ) → L.said trace b s c bytes ≡ L.said trace b t c bytes
   unfolding L.commanded L.started
-  said-alike trace b (Command.Start now) bytes = line-alike trace b _ _ refl refl (started-shows now bytes (eqb (start-number now bytes) 0))
+  said-alike trace b (Command.Start by now) bytes = line-alike trace b _ _ refl refl (started-shows by now bytes (eqb (start-number by now bytes) 0))
   said-alike trace b (Command.Host c) bytes =
       line-alike trace b (called s c) (called t c)
       (ap (λ (a : Answer). a .number) (answered c))

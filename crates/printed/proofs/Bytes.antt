@@ -73,7 +73,7 @@ module _ (trace : Bool) (s : Bma150) (now : Time) (bytes : List ℕ) (put : call
 
 -- ---- the run
 
-module _ (b : Start) (cs : List Call) (now : Time) (rail : ℕ) (accepted : start-number (b .time) (b .image) ≡ 0) (fits : Run-fits b cs now rail) (trace : Bool) (s : Bma150) where
+module _ (b : Start) (cs : List Call) (now : Time) (rail : ℕ) (accepted : start-number (b .by) (b .time) (b .image) ≡ 0) (fits : Run-fits b cs now rail) (trace : Bool) (s : Bma150) where
   -- the sensor that it leaves does what follows
   pub follows : (further : List ℕ) → Follows b cs now rail trace s further (whole trace (left b cs now rail) further .text)
   unfolding call-bytes timed-bytes

@@ -12,6 +12,7 @@ use Rattle.sensor.specs.Image.{stock}
 use Rattle.calls.specs.declared.types.Timed.the-variants as Timed
 use Rattle.calls.specs.declared.types.Call.{Call}
 use Rattle.calls.specs.declared.types.Call.the-variants as Call
+use Rattle.calls.specs.declared.types.Starting.the-variants as Starting
 use Rattle.bma150.specs.declared.host.Bma150.{Bma150}
 use Rattle.bma150.specs.Called.{start-number}
 use Rattle.commands.specs.Encode.{Time-fits, Timed-fits, Call-fits}
@@ -71,7 +72,7 @@ abbrev now : Time
 now = time (2 ^ 64 / 1000)
 
 abbrev stock-start : Start
-stock-start = record { time = time 0; image = stock }
+stock-start = record { by = Starting.Checked; time = time 0; image = stock }
 
 -- ee_w is set, 34 is written, and 0 mV cuts the write
 abbrev cut-write : List Call
@@ -84,7 +85,7 @@ torn = 3 ∷ 20 ∷ 150 ∷ 160 ∷ 150 ∷ 0 ∷ 0 ∷ 162 ∷ 13 ∷ 4 ∷ 128
 -- ---- another start, with those bytes, and another list that returns at the same time
 
 abbrev other-start : Start
-other-start = record { time = now; image = torn }
+other-start = record { by = Starting.Checked; time = now; image = torn }
 
 abbrev no-write : List Call
 no-write = Call.At now (Timed.Supply 0) ∷ []
@@ -110,11 +111,11 @@ text = ascii "01 ok 0 F F\n" ++ ascii "04 ok 0 F F -\n" ++ ascii "04 ok 0 F F -\
 -- ---- computed
 
 record Computed : Type 0 where
-  first-accepted : start-number (stock-start .time) (stock-start .image) ≡ 0
+  first-accepted : start-number (stock-start .by) (stock-start .time) (stock-start .image) ≡ 0
   first-returns : accepts (after (started stock-start) cut-write) (Call.At now (Timed.Supply 3000)) ≡ true
   first-from-zero : met-zero false (accepted (started stock-start) cut-write) ≡ true
   first-book : booked (opened stock-start) (ending cut-write now 3000) .cells ≡ torn
-  second-accepted : start-number (other-start .time) (other-start .image) ≡ 0
+  second-accepted : start-number (other-start .by) (other-start .time) (other-start .image) ≡ 0
   second-returns : accepts (after (started other-start) no-write) (Call.At now (Timed.Supply 2400)) ≡ true
   second-from-zero : met-zero false (accepted (started other-start) no-write) ≡ true
   second-book : booked (opened other-start) (ending no-write now 2400) .cells ≡ torn
@@ -124,7 +125,7 @@ record Computed : Type 0 where
   same-kept : kept stock-start cut-write ≡ kept other-start no-write
 
 computed : Computed
-unfolding NC.mixed NC.low-half NC.threshold NC.crossing NC.bits-where NC.byte RA.unwritable RA.working RA.stored RA.image-blocks RA.sleep-blocks RA.locked RA.ignores RA.begins DD.is-set DD.is-at DD.is-by DD.sooner DD.unless-at DD.first DD.earliest CW.written-control CW.written-register CW.kind-of-write CW.self-test CW.sleep SF.differs SF.reads SF.first-bit SF.addressed SF.completed SF.take-bit SF.moves SF.shifts SF.consumes-at-rise BR.runs BI.cell-byte BI.with-cell BC.pause-end BC.automatic-control BW.interrupts-written BW.tested BW.slept BW.image-written BW.register-effect BW.write-effect BS.samples-run BS.next-sample BS.write-end BS.sample-due BS.next-deadline BS.limit BS.caught-up BS.samples-on-demand BS.sync-local-until BL.selected-to BL.may-select BE.moved BE.first-bit-taken BE.write-done BE.spi-listens BE.rising-effect BE.rise-synced BU.cut BU.turned ST.held ST.turned BU.zero-while-off BU.returned BU.supply-low BU.supply-ok BU.set-supply TF.timed-facts TF.facts T.wrong-length T.out-of-range T.jumps T.late T.too-late T.goes-back T.due-by T.due-at T.before-due T.beside-due T.first-found T.refusal T.start-refusal T.unless-refused C.after-start C.effect C.timed-adds C.leaves C.adds RL.after RL.accepted RL.zeroed RL.met-zero RL.last-kept RD.spi-write RD.timed-does RD.does RB.operation RB.completing RB.cutting RB.supplied RB.runs RB.accepted-write RB.of-write RB.began RB.changed-at RB.entered RB.booked PI.inputs PI.texts PL.text-of L.line L.pins L.added-text X.word X.bit X.report-text X.due-text CV.drive-letter CV.report-values BC.interrupt BC.shows-new-data BO.output BO.data-output BO.spi-drives BO.i2c-holds IP.output IP.threshold-output IP.motion-output IS.configure BI.shadowing RL.answers E.call-bytes E.timed-bytes E.time-bytes E.bytes
+unfolding NC.mixed NC.low-half NC.threshold NC.crossing NC.bits-where NC.byte RA.unwritable RA.working RA.stored RA.image-blocks RA.sleep-blocks RA.locked RA.ignores RA.begins DD.is-set DD.is-at DD.is-by DD.sooner DD.unless-at DD.first DD.earliest CW.written-control CW.written-register CW.kind-of-write CW.self-test CW.sleep SF.differs SF.reads SF.first-bit SF.addressed SF.completed SF.take-bit SF.moves SF.shifts SF.consumes-at-rise BR.runs BI.cell-byte BI.with-cell BC.pause-end BC.automatic-control BW.interrupts-written BW.tested BW.slept BW.image-written BW.register-effect BW.write-effect BS.samples-run BS.next-sample BS.write-end BS.sample-due BS.next-deadline BS.limit BS.caught-up BS.samples-on-demand BS.sync-local-until BL.selected-to BL.may-select BE.moved BE.first-bit-taken BE.write-done BE.spi-listens BE.rising-effect BE.rise-synced BU.cut BU.turned ST.held ST.turned BU.zero-while-off BU.returned BU.supply-low BU.supply-ok BU.set-supply TF.timed-facts TF.facts T.wrong-length T.out-of-range T.jumps T.late T.too-late T.goes-back T.due-by T.due-at T.before-due T.beside-due T.first-found T.refusal T.reserved T.turned-down T.start-refusal T.unless-refused C.after-start C.effect C.timed-adds C.leaves C.adds RL.after RL.accepted RL.zeroed RL.met-zero RL.last-kept RD.spi-write RD.timed-does RD.does RB.operation RB.completing RB.cutting RB.supplied RB.runs RB.accepted-write RB.of-write RB.began RB.changed-at RB.entered RB.booked PI.inputs PI.texts PL.text-of L.line L.pins L.added-text X.word X.bit X.report-text X.due-text CV.drive-letter CV.report-values BC.interrupt BC.shows-new-data BO.output BO.data-output BO.spi-drives BO.i2c-holds IP.output IP.threshold-output IP.motion-output IS.configure BI.shadowing RL.answers E.start-byte E.call-bytes E.timed-bytes E.time-bytes E.bytes
 computed = record { first-accepted = refl; first-returns = refl; first-from-zero = refl; first-book = refl; second-accepted = refl; second-returns = refl; second-from-zero = refl; second-book = refl; first-line = refl; second-input = refl; second-text = refl; same-kept = refl }
 
 -- ---- the operands fit

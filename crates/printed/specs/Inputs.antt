@@ -9,7 +9,7 @@ use Rattle.time.specs.declared.Time.{Time}
 use Rattle.calls.specs.declared.types.Call.{Call}
 use Rattle.bma150.specs.declared.host.Bma150.{Bma150}
 use Rattle.bma150.specs.Called.{next-due}
-use Rattle.commands.specs.Encode.{bytes, time-bytes, call-bytes, Time-fits, Call-fits}
+use Rattle.commands.specs.Encode.{start-byte, bytes, time-bytes, call-bytes, Time-fits, Call-fits}
 use Rattle.book.specs.Lists.{Answer, Start, started}
 use Rattle.bench.specs.Text.{space, line-feed, due-text}
 use Rattle.bench.specs.Line.{pins, silent, line}
@@ -27,9 +27,9 @@ unfoldable pub All-fit : List Call → Type 0
 All-fit [] = Unit {0}
 All-fit (c ∷ cs) = Call-fits c × All-fit cs
 
--- 01 start T, 19 bytes
+-- 01 or 0c start T, 19 bytes
 abbrev pub start-bytes : Start → List ℕ
-start-bytes b = 0x01 ∷ (time-bytes (b .time) ++ b .image)
+start-bytes b = start-byte (b .by) ∷ (time-bytes (b .time) ++ b .image)
 
 -- T fits its fields, and the image has 19 bytes
 abbrev pub Start-fits : Start → Type 0
@@ -53,7 +53,7 @@ texts trace (c ∷ cs) (a ∷ out) = text-of trace (getD (call-bytes c) 0 0) a +
 
 -- the line of an accepted start: its sensor's pins, and nothing added
 abbrev pub start-line : (trace : Bool) → Start → List ℕ
-start-line trace b = line trace 0x01 (silent (started b) 0)
+start-line trace b = line trace (start-byte (b .by)) (silent (started b) 0)
 
 -- the line of an accepted 0a that leaves this sensor and shows these digits
 abbrev pub image-line : (trace : Bool) → Bma150 → (digits : List ℕ) → List ℕ

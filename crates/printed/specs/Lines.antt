@@ -18,7 +18,7 @@ use Rattle.bench.specs.Line as L
 
 -- the call of a command; a start begins another list, a bad command calls nothing
 unfoldable pub call-of : Command → Option Call
-call-of (Command.Start t) = none
+call-of (Command.Start by t) = none
 call-of (Command.Host c) = some c
 call-of Command.Bad = none
 

@@ -39,7 +39,7 @@ sampled-writes s now =
     let u = sync-local-until s now false in
     ap (λ (k : C.Core). k .writing .operation) (sync-keeps u now true .same) ∙ ap (λ (k : C.Core). k .writing .operation) (sync-keeps s now false .same)
 
-module _ (b : Start) (cs : List Call) (ok : start-number (b .time) (b .image) ≡ 0) (fits : Fractions cs) (now : Time) (t : Timed) (address value : ℕ) where
+module _ (b : Start) (cs : List Call) (ok : start-number (b .by) (b .time) (b .image) ≡ 0) (fits : Fractions cs) (now : Time) (t : Timed) (address value : ℕ) where
   abbrev s : Bma150
   s = sensor-after b cs
 

@@ -2,7 +2,9 @@
 use Prim.Native.Nat.{ℕ, _^_, _<_}
 use mathlib.Core.Path.{_≡_, refl, sym, ap, subst, _∙_}
 use mathlib.Core.Bool.{Bool, true, false, cond}
+use mathlib.Core.Logic.{inr}
 use mathlib.Core.List.{List, [], _∷_}
+use native.Mathlib.Omega.{arith}
 use mathlib.Core.Option.{none}
 use lib.ListN.{length}
 use borrow.Author.Tests.{leb-true, le-leb, lt-leb, eqb-true, eq-eqb}
@@ -13,11 +15,12 @@ use Rattle.calls.specs.declared.types.Call.{Call}
 use Rattle.calls.specs.declared.types.Call.the-variants as Call
 use Rattle.calls.specs.Table as T
 use Rattle.calls.specs.Theorems.Left.{accepted-is, refused-is}
+use Rattle.calls.specs.Theorems.Exactly.{TurnedDown, start-refused-whole}
 use Rattle.sensor.specs.declared.types.Kept.{Kept}
 use Rattle.sensor.specs.Image.{cell-byte, new-kept}
 use Rattle.samples.specs.Samples.{interaction-deadline}
 use Rattle.bma150.specs.declared.host.Bma150.{Bma150}
-use Rattle.bma150.specs.Called.{Added, start-number, started, leaves, called}
+use Rattle.bma150.specs.Called.{Added, measurement-of, start-number, started, leaves, called}
 use Rattle.book.specs.Does.{timed-does, does}
 use Rattle.book.specs.Lists.{Answer, answer, accepts, step, Start, after, answers, accepted, Fractions, met-zero, last-kept, Returns}
 use Rattle.book.specs.Lists as L
@@ -60,7 +63,7 @@ module _ {b : Start} {cs : List Call} (r : Ran functions b cs) where
   pub accepted-are : taken cs (r .out) ≡ accepted (L.started b) cs
   accepted-are = ap (λ (l : List Answer). taken cs l) out-is ∙ taken-is (L.started b) cs
 
-  start-taken : start-number (b .time) (b .image) ≡ 0
+  start-taken : start-number (b .by) (b .time) (b .image) ≡ 0
   start-taken = sym (ap (λ (a : Answer). a .number) (begun (r .begins) .1)) ∙ r .accepted
 
   -- ---- a return from 0 mV is one of the definitions
@@ -127,14 +130,13 @@ goes-on s (c ∷ cs) =
     let q = goes-on (r .0) cs in
     (r .1 ∷ q .0, q .1, Run.next (r .2) (q .2))
 
-start-accepts : (b : Start) → length (b .image) ≡ 19 → b .time .0 < 2 ^ 32 → start-number (b .time) (b .image) ≡ 0
-unfolding T.start-refusal T.first-found T.wrong-length T.too-late T.late
-start-accepts b p q = rw (eq-eqb (length (b .image)) 19 p, lt-leb (2 ^ 32) (b .time .0) q)
+start-accepts : (b : Start) → length (b .image) ≡ 19 → (TurnedDown (b .by) (measurement-of (b .image)) → ⊥) → b .time .0 < 2 ^ 32 → start-number (b .by) (b .time) (b .image) ≡ 0
+start-accepts b p t q = start-refused-whole (b .by) (b .time) (length (b .image)) (measurement-of (b .image)) 0 (inr (λ f. f p, inr (t, inr (λ l. omega arith, refl))))
 
-pub exists : (b : Start) → length (b .image) ≡ 19 → b .time .0 < 2 ^ 32 → (cs : List Call) → Ran functions b cs
-exists b p q cs =
+pub exists : (b : Start) → length (b .image) ≡ 19 → (TurnedDown (b .by) (measurement-of (b .image)) → ⊥) → b .time .0 < 2 ^ 32 → (cs : List Call) → Ran functions b cs
+exists b p t q cs =
     let g = goes-on (L.started b) cs in
-    record { first = L.started b; start = start-answer b; begins = starting b; accepted = start-accepts b p q; out = g .0; last = g .1; runs = g .2 }
+    record { first = L.started b; start = start-answer b; begins = starting b; accepted = start-accepts b p t q; out = g .0; last = g .1; runs = g .2 }
 
 -- ---- refusals
 

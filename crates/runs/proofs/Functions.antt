@@ -21,6 +21,9 @@ use Rattle.calls.specs.declared.types.Timed.{Timed}
 use Rattle.calls.specs.declared.types.Timed.the-variants as Timed
 use Rattle.calls.specs.declared.types.Call.{Call}
 use Rattle.calls.specs.declared.types.Call.the-variants as Call
+use Rattle.calls.specs.declared.types.Starting.{Starting}
+use Rattle.calls.specs.declared.types.Starting.the-variants as Starting
+use Rattle.calls.specs.declared.types.Bytes.the-variants as Bytes
 use Rattle.calls.specs.declared.types.Refusal.{Refusal}
 use Rattle.calls.specs.declared.types.Refusal.the-variants as Refusal
 use Rattle.calls.specs.declared.types.Outcome.{Outcome}
@@ -37,10 +40,11 @@ use Rattle.bma150.specs.declared.types.Replied.{Replied}
 use Rattle.bma150.specs.declared.types.Reported.{Reported}
 use Rattle.bma150.specs.declared.host.Bma150.{Bma150}
 use Rattle.bma150.specs.Values.{report-values, view-value}
-use Rattle.bma150.specs.Called.{Added, reported, of-view, put-in, timed-adds, served, leaves, adds, number, called, start-number, after-start, interrupt, output, data-output}
+use Rattle.bma150.specs.Called.{Added, reported, of-view, put-in, timed-adds, served, leaves, adds, number, called, measurement-of, start-number, after-start, interrupt, output, data-output}
 use Rattle.bma150.specs.Theorems.Values.{drive-letter-injective}
 use Rattle.bma150.specs.Theorems.Added.{reported-is, silent-is, buffer-is, image-leaves, view-leaves, view-adds}
 use Rattle.bma150.proofs.host.Bma150.start.Met as start-theorem
+use Rattle.bma150.proofs.host.Bma150.start_stored.Met as start-stored-theorem
 use Rattle.bma150.proofs.host.Bma150.timed.Met as timed-theorem
 use Rattle.bma150.proofs.host.Bma150.accelerations.Met as accelerations-theorem
 use Rattle.bma150.proofs.host.Bma150.temperature.Met as temperature-theorem
@@ -132,9 +136,12 @@ outcome-of last d l c =
     (row-answer (T.before-due d (facts c .kind) (facts c .time)) Refusal.DueFirst
     (row-answer (T.beside-due d (facts c .kind) (facts c .time)) Refusal.NotDue accepted-answer))))))
 
-start-outcome : (now : Time) (n : ℕ) → (o : Outcome) × (T.number o ≡ T.start-refusal now n)
+start-outcome : (by : Starting) (now : Time) (n m : ℕ) → (o : Outcome) × (T.number o ≡ T.start-refusal by now n m)
 unfolding T.start-refusal T.first-found T.refusal-number
-start-outcome now n = row-answer (T.wrong-length (bringing now n .bytes)) Refusal.ImageLength (row-answer (T.too-late (bringing now n .time)) Refusal.TimeLimit accepted-answer)
+start-outcome by now n m =
+    row-answer (T.wrong-length (Bytes.Count n)) Refusal.ImageLength
+    (row-answer (T.turned-down by m) Refusal.ReservedCode
+    (row-answer (T.late now) Refusal.TimeLimit accepted-answer))
 
 -- the observers' replies that the definitions give
 abbrev seen : Bma150 → Pins
@@ -195,7 +202,7 @@ replies s (Call.StoredImage now n) =
 -- the answer of a start: its number, and the observers' replies of the sensor that it hands out
 abbrev pub start-answer : Start → Answer
 start-answer b = record {
-  number = start-number (b .time) (b .image);
+  number = start-number (b .by) (b .time) (b .image);
   interrupt = interrupt (started b);
   output = output (started b);
   data-output = data-output (started b);
@@ -203,18 +210,34 @@ start-answer b = record {
   next-due = interaction-deadline (started b .sensor);
 }
 
-pub begun : {b : Start} {s : Bma150} {a : Answer} → Begins b s a → (s ≡ started b) × (a ≡ start-answer b)
-begun {b} (Begins.begins κs lent r o h p q) =
-    let e : r .sensor ≡ started b = p .1 ∙ ap (λ (l : List ℕ). after-start (b .time) l) h in
-    let n : T.number (r .outcome) ≡ start-number (b .time) (b .image) = p .0 ∙ ap (λ (l : List ℕ). start-number (b .time) l) h in
+-- a reply with the number and the sensor of the definitions, and the observers' replies
+begun-is : (b : Start) (l : List ℕ) (r : Replied) (o : Pins) → l ≡ b .image → T.number (r .outcome) ≡ start-number (b .by) (b .time) l → r .sensor ≡ after-start (b .by) (b .time) l → Observed (r .sensor) o
+    → (r .sensor ≡ started b) × (answered (T.number (r .outcome)) Added.nothing o ≡ start-answer b)
+begun-is b l r o h number sensor q =
+    let e : r .sensor ≡ started b = sensor ∙ ap (λ (k : List ℕ). after-start (b .by) (b .time) k) h in
+    let n : T.number (r .outcome) ≡ start-number (b .by) (b .time) (b .image) = number ∙ ap (λ (k : List ℕ). start-number (b .by) (b .time) k) h in
     (e, rw (q .interrupt, drive-letter-injective _ _ (q .output), drive-letter-injective _ _ (q .data-output), moment-injective _ _ (q .next-due), e, n))
 
-pub starting : (b : Start) → Begins b (started b) (start-answer b)
-starting b =
-    let u = start-outcome (b .time) (length (b .image)) in
+pub begun : {b : Start} {s : Bma150} {a : Answer} → Begins b s a → (s ≡ started b) × (a ≡ start-answer b)
+begun (Begins.checked {now} {image} κs lent r o h p q) = begun-is (record { by = Starting.Checked; time = now; image = image }) (lent .now) r o h (p .0) (p .1) q
+begun (Begins.stored {now} {image} κs lent r o h p q) = begun-is (record { by = Starting.Stored; time = now; image = image }) (lent .now) r o h (p .0) (p .1) q
+
+starts : (by : Starting) (now : Time) (image : List ℕ) → let b : Start = record { by = by; time = now; image = image } in Begins b (started b) (start-answer b)
+starts Starting.Checked now image =
+    let b : Start = record { by = Starting.Checked; time = now; image = image } in
+    let u = start-outcome Starting.Checked now (length image) (measurement-of image) in
     let r : Replied = record { sensor = started b; outcome = u .0 } in
-    let p = Begins.begins {b = b} ([], tt) (at-address (b .image)) r (seen (started b)) refl (u .1, refl) (observed (started b)) in
-    subst (λ (n : ℕ). Begins b (started b) (answered n Added.nothing (seen (started b)))) (u .1) p
+    subst (λ (n : ℕ). Begins b (started b) (answered n Added.nothing (seen (started b)))) (u .1)
+    (Begins.checked ([], tt) (at-address image) r (seen (started b)) refl (u .1, refl) (observed (started b)))
+starts Starting.Stored now image =
+    let b : Start = record { by = Starting.Stored; time = now; image = image } in
+    let u = start-outcome Starting.Stored now (length image) (measurement-of image) in
+    let r : Replied = record { sensor = started b; outcome = u .0 } in
+    subst (λ (n : ℕ). Begins b (started b) (answered n Added.nothing (seen (started b)))) (u .1)
+    (Begins.stored ([], tt) (at-address image) r (seen (started b)) refl (u .1, refl) (observed (started b)))
+
+pub starting : (b : Start) → Begins b (started b) (start-answer b)
+starting b = starts (b .by) (b .time) (b .image)
 
 -- ---- lent calls
 
@@ -236,6 +259,7 @@ lent-too = record {
 pub contracts : Contracts
 contracts = record {
   start = start-theorem.met;
+  start-stored = start-stored-theorem.met;
   timed = timed-theorem.met;
   accelerations = accelerations-theorem.met;
   temperature = temperature-theorem.met;
@@ -258,6 +282,7 @@ contracts = record {
 pub ask-nothing : {M : Type 1} (𝓤 : URA M) (H : Heap 𝓤) (A : Atoms 𝓤) (memory : Memory → SProp 𝓤) (run : Routine → Fun 𝓤) → AskNothing 𝓤 H A memory run
 ask-nothing 𝓤 H A memory run = record {
   start = λ κs arguments g. refl;
+  start-stored = λ κs arguments g. refl;
   timed = λ κs arguments g. refl;
   accelerations = λ κs arguments g. refl;
   temperature = λ κs arguments g. refl;

@@ -12,6 +12,7 @@ use Rattle.sensor.specs.Image.{stock}
 use Rattle.calls.specs.declared.types.Timed.the-variants as Timed
 use Rattle.calls.specs.declared.types.Call.{Call}
 use Rattle.calls.specs.declared.types.Call.the-variants as Call
+use Rattle.calls.specs.declared.types.Starting.the-variants as Starting
 use Rattle.book.specs.Lists.{Start, Fractions}
 
 -- ---- calls
@@ -127,7 +128,7 @@ seven-clocks-good t small g =
 -- ---- starts and moments
 
 abbrev pub stock-start : Start
-stock-start = record { time = time 0; image = stock }
+stock-start = record { by = Starting.Checked; time = time 0; image = stock }
 
 -- where a stored write that began at 0 ends, and a quarter of the way to it
 abbrev pub completion : Time

@@ -24,7 +24,8 @@ use Rattle.calls.specs.Table.{refusal}
 use Rattle.sensor.specs.declared.types.Kept.{Kept}
 use Rattle.sensor.specs.Image.{cell-byte, new-kept}
 use Rattle.bma150.specs.declared.host.Bma150.{Bma150}
-use Rattle.bma150.specs.Called.{Added, start-number}
+use Rattle.calls.specs.Theorems.Exactly.{TurnedDown}
+use Rattle.bma150.specs.Called.{Added, measurement-of, start-number}
 use Rattle.book.specs.Does.{does}
 use Rattle.book.specs.Lists.{Answer, Start, Fractions, met-zero, last-kept}
 use Rattle.book.specs.Book.{opened, booked}
@@ -108,10 +109,10 @@ pub record Demand3 (m : Host) : Type 1 where
   -- two runs of one list from one sensor, each call by value or lent, answer alike and leave the same sensor
   pub alike : {s x y : m .Sensor} {cs : List Call} {f g : List Answer} → Run m s cs f x → Run m s cs g y → (f ≡ g) × (x ≡ y)
   -- every accepted start and every list of calls has a run, and from every sensor every further list
-  pub exists : (b : Start) → length (b .image) ≡ 19 → b .time .0 < 2 ^ 32 → (cs : List Call) → Ran m b cs
+  pub exists : (b : Start) → length (b .image) ≡ 19 → (TurnedDown (b .by) (measurement-of (b .image)) → ⊥) → b .time .0 < 2 ^ 32 → (cs : List Call) → Ran m b cs
   pub goes-on : (s : m .Sensor) (further : List Call) → (f : List Answer) × (x : m .Sensor) × Run m s further f x
   -- refusals follow 01's table: of a start, and of every call of a run
-  pub start-refused : {b : Start} {s : m .Sensor} {a : Answer} → m .begins b s a → a .number ≡ start-number (b .time) (b .image)
+  pub start-refused : {b : Start} {s : m .Sensor} {a : Answer} → m .begins b s a → a .number ≡ start-number (b .by) (b .time) (b .image)
   pub refused : {b : Start} {cs : List Call} (r : Ran m b cs) → Numbered (b .time) (r .start .next-due) new-kept cs (r .out)
 
 -- ---- what is delivered

@@ -25,6 +25,7 @@ use Rattle.calls.specs.declared.types.Timed.{Timed}
 use Rattle.calls.specs.declared.types.Timed.the-variants as Timed
 use Rattle.calls.specs.declared.types.Call.{Call}
 use Rattle.calls.specs.declared.types.Call.the-variants as Call
+use Rattle.calls.specs.declared.types.Starting.the-variants as Starting
 use Rattle.calls.specs.declared.types.Outcome.{Outcome}
 use Rattle.calls.specs.Table as T
 use Rattle.sensor.specs.declared.types.View.{View}
@@ -39,6 +40,7 @@ use Rattle.bma150.specs.Called.{Added, of-view, timed-adds, served, adds, numbe
 use Rattle.bma150.specs.Lent.{DueLent, PinsLent}
 use Rattle.book.specs.Lists.{Answer, Start}
 use Rattle.bma150.proofs.host.Bma150.start.Reads as start-reads
+use Rattle.bma150.proofs.host.Bma150.start_stored.Reads as start-stored-reads
 use Rattle.bma150.proofs.host.Bma150.timed.Reads as timed-reads
 use Rattle.bma150.proofs.host.Bma150.accelerations.Reads as accelerations-reads
 use Rattle.bma150.proofs.host.Bma150.temperature.Reads as temperature-reads
@@ -55,6 +57,7 @@ use Rattle.bma150.proofs.host.Bma150.output.Reads as output-reads
 use Rattle.bma150.proofs.host.Bma150.data_output.Reads as data-output-reads
 use Rattle.bma150.proofs.host.Bma150.next_due.Reads as next-due-reads
 use Rattle.bma150.proofs.host.Bma150.start.Statement as start-stated
+use Rattle.bma150.proofs.host.Bma150.start_stored.Statement as start-stored-stated
 use Rattle.bma150.proofs.host.Bma150.timed.Statement as timed-stated
 use Rattle.bma150.proofs.host.Bma150.accelerations.Statement as accelerations-stated
 use Rattle.bma150.proofs.host.Bma150.temperature.Statement as temperature-stated
@@ -75,6 +78,7 @@ use Rattle.bma150.proofs.lent.due_lent.Statement as due-lent-stated
 use Rattle.bma150.proofs.lent.pins_lent as pins-lent-function
 use Rattle.bma150.proofs.lent.pins_lent.Statement as pins-lent-stated
 use Rattle.bma150.proofs.host.Bma150.start as start-function
+use Rattle.bma150.proofs.host.Bma150.start_stored as start-stored-function
 use Rattle.bma150.proofs.host.Bma150.timed as timed-function
 use Rattle.bma150.proofs.host.Bma150.accelerations as accelerations-function
 use Rattle.bma150.proofs.host.Bma150.temperature as temperature-function
@@ -155,11 +159,14 @@ pub data Serves : Bma150 → Call → Bma150 → Answer → Type 0 where
       → stored-image-reads.Post κs (s, (now, (lent, tt))) r (s, (now, (left, tt))) → Observed s o
       → Serves s (Call.StoredImage now n) s (handed r (left .now) o)
 
--- the replies of a start
+-- the replies of a start, by either call
 pub data Begins : Start → Bma150 → Answer → Type 0 where
-  begins : {b : Start} (κs : Lfts 1) (lent : RefT (List ℕ)) (r : Replied) (o : Pins) → lent .now ≡ b .image
-      → start-reads.Post κs (b .time, (lent, tt)) r (b .time, (lent, tt)) → Observed (r .sensor) o
-      → Begins b (r .sensor) (answered (T.number (r .outcome)) Added.nothing o)
+  checked : {now : Time} {image : List ℕ} (κs : Lfts 1) (lent : RefT (List ℕ)) (r : Replied) (o : Pins) → lent .now ≡ image
+      → start-reads.Post κs (now, (lent, tt)) r (now, (lent, tt)) → Observed (r .sensor) o
+      → Begins (record { by = Starting.Checked; time = now; image = image }) (r .sensor) (answered (T.number (r .outcome)) Added.nothing o)
+  stored : {now : Time} {image : List ℕ} (κs : Lfts 1) (lent : RefT (List ℕ)) (r : Replied) (o : Pins) → lent .now ≡ image
+      → start-stored-reads.Post κs (now, (lent, tt)) r (now, (lent, tt)) → Observed (r .sensor) o
+      → Begins (record { by = Starting.Stored; time = now; image = image }) (r .sensor) (answered (T.number (r .outcome)) Added.nothing o)
 
 -- what the contracts of the lent calls say is `DueLent` and `PinsLent`, and there is such a reply whatever the sensor and the arguments
 pub record LentToo : Type 2 where
@@ -174,6 +181,7 @@ pub record LentToo : Type 2 where
 
 pub record Contracts : Type 2 where
   pub start : {M : Type 1} → start-stated.statement M
+  pub start-stored : {M : Type 1} → start-stored-stated.statement M
   pub timed : {M : Type 1} → timed-stated.statement M
   pub accelerations : {M : Type 1} → accelerations-stated.statement M
   pub temperature : {M : Type 1} → temperature-stated.statement M
@@ -200,6 +208,7 @@ module _ {M : Type 1} (𝓤 : URA M) where
 
   pub record AskNothing (H : Heap 𝓤) (A : Atoms 𝓤) (memory : Memory → SProp 𝓤) (run : Routine → Fun 𝓤) : Type 2 where
     pub start : Free start-function.signature (start-function.spec 𝓤 H A memory run)
+    pub start-stored : Free start-stored-function.signature (start-stored-function.spec 𝓤 H A memory run)
     pub timed : Free timed-function.signature (timed-function.spec 𝓤 H A memory run)
     pub accelerations : Free accelerations-function.signature (accelerations-function.spec 𝓤 H A memory run)
     pub temperature : Free temperature-function.signature (temperature-function.spec 𝓤 H A memory run)

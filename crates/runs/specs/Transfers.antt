@@ -34,7 +34,7 @@ sensor-after b cs = after (started b) cs
 
 -- after the calls cs the sensor hears the I2C bus; the calls ds then bring START, 70 hex, a register and all but the last bit of a value, and nothing that ends its hearing; the report at `now` is the rise of that bit
 pub record I2cSoFar (b : Start) (cs ds : List Call) (register value : ℕ) : Type 0 where
-  pub start-accepted : start-number (b .time) (b .image) ≡ 0
+  pub start-accepted : start-number (b .by) (b .time) (b .image) ≡ 0
   pub fractions : Fractions (cs ++ ds)
   pub heard : Heard (sensor-after b cs .sensor)
   pub still-heard : ended (sensor-after b cs) ds ≡ false
@@ -52,7 +52,7 @@ pub record I2cSoFar (b : Start) (cs ds : List Call) (register value : ℕ) : Typ
 
 -- after the calls cs the sensor is selected and its frame begins; the calls ds then bring the rises of an address byte and of all but the last bit of a value, and nothing that ends the frame; the rise of that bit at `now` is accepted
 pub record SpiSoFar (b : Start) (cs ds : List Call) (address value : ℕ) : Type 0 where
-  pub start-accepted : start-number (b .time) (b .image) ≡ 0
+  pub start-accepted : start-number (b .by) (b .time) (b .image) ≡ 0
   pub fractions : Fractions (cs ++ ds)
   pub chosen : Chosen (sensor-after b cs .sensor)
   pub still-chosen : left-frame (sensor-after b cs) ds ≡ false

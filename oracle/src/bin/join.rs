@@ -1,6 +1,6 @@
 //! Joins command streams into one: `join [--count] FILES > COMMANDS`.
 //!
-//! Each part begins with a start. `--count` prints the number of lines that
+//! Each part begins with an accepted start. `--count` prints the number of lines that
 //! the bench program writes for the joined stream.
 use oracle::streams::part;
 use std::{

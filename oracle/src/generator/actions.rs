@@ -1,5 +1,6 @@
 //! What a stream is made of. A profile weighs the actions.
 use super::*;
+use crate::command::IMAGE;
 
 /// The actions, in the order of a profile's weights.
 pub const ACTIONS: usize = 17;
@@ -82,10 +83,25 @@ impl Generator {
         let image = self.image(kind);
         let at = self.start_time();
         self.now = at;
-        self.send(Command::Start { at, image });
+        self.send_start(at, image);
         if !self.random.once_in(6) {
             self.serve(1);
         }
+    }
+
+    /// Start by 01 or 0c. An image with a reserved code goes through 0c, and now
+    /// and then through 01 before, which refuses it.
+    pub(super) fn send_start(&mut self, at: Time, image: [u8; IMAGE]) {
+        let reserved = reserved(&image);
+        if reserved && self.starts.once_in(4) {
+            self.put(Command::Start { at, image });
+        }
+        let stored = reserved || self.starts.once_in(3);
+        self.send(if stored {
+            Command::StartStored { at, image }
+        } else {
+            Command::Start { at, image }
+        });
     }
 
     fn start_time(&mut self) -> Time {

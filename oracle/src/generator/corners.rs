@@ -12,7 +12,7 @@ impl Generator {
     /// Start with an image at the present moment, and wake.
     fn start_from(&mut self, image: [u8; crate::command::IMAGE]) {
         let at = self.now.max(self.model.last());
-        self.send(Command::Start { at, image });
+        self.send_start(at, image);
         self.now = at;
         self.serve(1);
     }

@@ -18,6 +18,9 @@ impl Generator {
         let at = self.now;
         self.send(Command::Start { at, image: STOCK });
         self.serve(1);
+        let at = self.now;
+        self.send(Command::StartStored { at, image: STOCK });
+        self.serve(1);
     }
 
     fn set(&mut self, axes: [i32; 3]) {

@@ -113,6 +113,24 @@ impl Generator {
         })
     }
 
+    /// Put a start by 01 whose image has a reserved code, at any time.
+    pub(super) fn reserved_start(&mut self) {
+        let mut image = STOCK;
+        if self.starts.bool() {
+            image.fill_with(|| self.starts.byte());
+        }
+        image[MEASUREMENT] |= self.starts.pick(&[0x18, 0x07, 0x1f]);
+        let last = self.model.last().raw();
+        let at = match self.starts.below(4) {
+            0 => 0,
+            1 => last.saturating_sub(1),
+            2 => last + SECOND, // Nothing may go on from there.
+            _ => self.now.raw(),
+        };
+        let at = Time::from_raw(at.min(LAST));
+        self.put(Command::Start { at, image });
+    }
+
     /// A pin report that follows on, to any levels.
     fn any_following(&mut self) -> u8 {
         let [clock, data] = self.model.lines().map(u8::from);

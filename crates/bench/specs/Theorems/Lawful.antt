@@ -18,7 +18,7 @@ use Rattle.bench.specs.Run.{took, bench}
 -- of a start the image is there; no other command looks at it
 seen : (s : Bma150) (l m : List ℕ) (c : Command) → decoded l ≡ c → commanded s c (image (l ++ m)) ≡ commanded s c (image l)
 unfolding commanded
-seen s l m (Command.Start t) e = rw (image-more l m (image-there l t e))
+seen s l m (Command.Start by t) e = rw (image-more l m (image-there l by t e))
 seen s l m (Command.Host c) e = refl
 seen s l m Command.Bad e = refl
 

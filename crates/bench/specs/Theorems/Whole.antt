@@ -29,6 +29,6 @@ after-refusal trace s l p m run none some bad bad-more =
     ∙ ap (λ (c : Command). whole trace s l .text ++ said trace (getD p 0 0) n c (image p)) bad
 
 -- so an unknown byte ends the text, whatever follows
-pub after-unknown : (trace : Bool) (s : Bma150) (l m : List ℕ) (b : ℕ) → whole trace s l .stop ≡ false → whole trace s l .left ≡ [] → 11 < b
+pub after-unknown : (trace : Bool) (s : Bma150) (l m : List ℕ) (b : ℕ) → whole trace s l .stop ≡ false → whole trace s l .left ≡ [] → 12 < b
     → whole trace s (l ++ (b ∷ m)) .text ≡ whole trace s l .text ++ said trace b (whole trace s l .state) Command.Bad (image (b ∷ []))
 after-unknown trace s l m b run none h = after-refusal trace s l (b ∷ []) m run none (omega arith) (unknown b [] h) (unknown b m h)

@@ -9,12 +9,13 @@ use lib.ListN.{length}
 use borrow.Author.Tests.{ne-eqb}
 use Rattle.time.specs.declared.Time.{Time}
 use Rattle.calls.specs.declared.types.Call.{Call}
+use Rattle.calls.specs.declared.types.Starting.{Starting}
 use Rattle.calls.specs.Theorems.Found.{Fault, First}
 use Rattle.calls.specs.Theorems.Exactly.{faults, start-faults, refused-only, refused-whole, start-refused-only, start-refused-whole}
 use Rattle.calls.specs.Theorems.Left.{refused-is}
 use Rattle.samples.specs.Samples.{interaction-deadline}
 use Rattle.bma150.specs.declared.host.Bma150.{Bma150}
-use Rattle.bma150.specs.Called.{Added, put-in, leaves, adds, number, called, start-number}
+use Rattle.bma150.specs.Called.{Added, put-in, leaves, adds, number, called, measurement-of, start-number}
 
 -- a statement and its converse
 pub record Exactly (P Q : Type 0) : Type 0 where
@@ -32,10 +33,14 @@ refused-exactly-if s c n = record {
   whole = refused-whole (s .last) (interaction-deadline (s .sensor)) (s .sensor .kept .lines) c n;
 }
 
-pub start-refused-exactly-if : (now : Time) (image : List ℕ) (n : ℕ) → Exactly (start-number now image ≡ n) (First (start-faults now (length image)) n)
-start-refused-exactly-if now image n = record {
-  only = λ e. subst (λ (k : ℕ). First (start-faults now (length image)) k) e (start-refused-only now (length image));
-  whole = start-refused-whole now (length image) n;
+-- the faults that a start can have, in order
+abbrev pub start-faults-of : Starting → Time → (image : List ℕ) → List Fault
+start-faults-of by now image = start-faults by now (length image) (measurement-of image)
+
+pub start-refused-exactly-if : (by : Starting) (now : Time) (image : List ℕ) (n : ℕ) → Exactly (start-number by now image ≡ n) (First (start-faults-of by now image) n)
+start-refused-exactly-if by now image n = record {
+  only = λ e. subst (λ (k : ℕ). First (start-faults-of by now image) k) e (start-refused-only by now (length image) (measurement-of image));
+  whole = start-refused-whole by now (length image) (measurement-of image) n;
 }
 
 -- a refused call leaves the sensor and the lent buffer as they came, and answers only its number

@@ -343,12 +343,12 @@ image-is image f size same =
 
 -- ---- for every accepted start and every list of calls
 
-module _ (b : Start) (accepted : start-number (b .time) (b .image) ≡ 0) (cs : List Call) where
+module _ (b : Start) (accepted : start-number (b .by) (b .time) (b .image) ≡ 0) (cs : List Call) where
   agrees : Agrees (b .image) (booked (opened b) cs) (writes b cs)
   unfolding that-runs held
   agrees =
       booked-agrees (b .image) (opened b) cs []
-      (record { size = start-length (b .time) (length (b .image)) (ap (λ (n : ℕ). eqb n 0) accepted); running = refl; cells = λ a. refl; proper = tt })
+      (record { size = start-length (b .by) (b .time) (length (b .image)) _ (ap (λ (n : ℕ). eqb n 0) accepted); running = refl; cells = λ a. refl; proper = tt })
 
   -- there are 19 cells
   pub nineteen : length (booked (opened b) cs .cells) ≡ 19

@@ -307,4 +307,4 @@ pub hears : (b : L.Start) (cs : List Call) → let s = after (L.started b) cs .s
     is-off s ≡ false → s .deadlines .«serial_ready» ≡ Never → s .frame .selected ≡ false → s .deadlines .quiet ≡ Never → Heard s
 unfolding after-start
 hears b cs on ready unselected loud =
-    record { on = on; ready = ready; unselected = unselected; at-rest = list-rests cs (L.started b) (start-rests b (start-number (b .time) (b .image))) .rests unselected; loud = loud }
+    record { on = on; ready = ready; unselected = unselected; at-rest = list-rests cs (L.started b) (start-rests b (start-number (b .by) (b .time) (b .image))) .rests unselected; loud = loud }

@@ -1,5 +1,5 @@
 -- A call gets number n exactly if n is that of the first fault of 01's table that is there, or 0 where there is none.
-use Prim.Native.Nat.{ℕ, _^_, _≤_, _<_}
+use Prim.Native.Nat.{ℕ, _/_, _%_, _^_, _≤_, _<_}
 use native.Mathlib.Omega.{arith}
 use mathlib.Core.Path.{_≡_, refl, sym, ap, _∙_}
 use mathlib.Core.Bool.{Bool, true, false, Bool·beq, not, _&&_, _||_}
@@ -18,8 +18,10 @@ use Rattle.calls.specs.declared.types.Timed.{Timed}
 use Rattle.calls.specs.declared.types.Timed.the-variants as Timed
 use Rattle.calls.specs.declared.types.Call.{Call}
 use Rattle.calls.specs.declared.types.Call.the-variants as Call
-use Rattle.calls.specs.Facts.{timed-facts, facts, bringing}
-use Rattle.calls.specs.Table.{wrong-length, beyond, any-beyond, out-of-range, same-levels, jumps, late, too-late, goes-back, due-by, due-at, before-due, beside-due, rows, start-rows, refusal, start-refusal}
+use Rattle.calls.specs.declared.types.Starting.{Starting}
+use Rattle.calls.specs.declared.types.Starting.the-variants as Starting
+use Rattle.calls.specs.Facts.{timed-facts, facts}
+use Rattle.calls.specs.Table.{wrong-length, beyond, any-beyond, out-of-range, same-levels, jumps, late, too-late, goes-back, due-by, due-at, before-due, beside-due, reserved, turned-down, rows, start-rows, refusal, start-refusal}
 use Rattle.calls.specs.Theorems.Left.{clear}
 use Rattle.calls.specs.Theorems.Found.{never, Fault, fault, First, Tells, Finds, found-first, first-is-found}
 
@@ -107,9 +109,17 @@ faults last due lines c =
     ∷ fault 6 (IsTimed c (λ now t. NotDue due now t))
     ∷ []
 
--- 01: a start has 1 and 3
-abbrev pub start-faults : Time → ℕ → List Fault
-start-faults now length = fault 1 (length ≡ 19 → ⊥) ∷ fault 3 (2 ^ 32 ≤ now .0) ∷ []
+-- 9: bits 4..3 of the byte of register 14 are 3, or bits 2..0 are 7; command 0c's start does not have it
+abbrev pub Reserved : ℕ → Type 0
+Reserved measurement = (measurement / 8 % 4 ≡ 3) ⊎ (measurement % 8 ≡ 7)
+
+abbrev pub TurnedDown : Starting → ℕ → Type 0
+TurnedDown Starting.Checked measurement = Reserved measurement
+TurnedDown Starting.Stored measurement = ⊥
+
+-- a start: 1, 9, 3
+abbrev pub start-faults : Starting → Time → (length measurement : ℕ) → List Fault
+start-faults by now length measurement = fault 1 (length ≡ 19 → ⊥) ∷ fault 9 (TurnedDown by measurement) ∷ fault 3 (2 ^ 32 ≤ now .0) ∷ []
 
 -- ---- the tests of the table find exactly these
 
@@ -206,6 +216,20 @@ not-at-tells due now = record { only = not-only (is-at due now) (at-whole due no
 axes-tell : (x y z : ℤ) → Tells (Beyond x ⊎ (Beyond y ⊎ Beyond z)) (any-beyond x y z)
 axes-tell x y z = record { only = axes-only x y z; whole = axes-whole x y z }
 
+reserved-whole : (m : ℕ) → Reserved m → reserved m ≡ true
+unfolding reserved
+reserved-whole m (inl p) = either-left (eqb (m / 8 % 4) 3) _ (eq-eqb (m / 8 % 4) 3 p)
+reserved-whole m (inr p) = either-right (eqb (m / 8 % 4) 3) _ (eq-eqb (m % 8) 7 p)
+
+reserved-only : (m : ℕ) → reserved m ≡ true → Reserved m
+unfolding reserved
+reserved-only m = either-only (eqb (m / 8 % 4) 3) (eqb (m % 8) 7) (eqb-true (m / 8 % 4) 3) (eqb-true (m % 8) 7)
+
+turned-down-tells : (by : Starting) (m : ℕ) → Tells (TurnedDown by m) (turned-down by m)
+unfolding turned-down
+turned-down-tells Starting.Checked m = record { only = reserved-only m; whole = reserved-whole m }
+turned-down-tells Starting.Stored m = never-tells
+
 -- two levels that are the same, line by line
 same-lines : (lines before : Levels) → (lines .scl ≡ before .scl) → (lines .sda ≡ before .sda) → before ≡ lines
 same-lines lines before p q =
@@ -281,18 +305,18 @@ module _ (last : Time) (due : Deadline) (lines : Levels) where
   unfolding refusal
   refused-whole c n p = first-is-found _ rows (faults last due lines c) (finds c) n p
 
-module _ (now : Time) (length : ℕ) where
-  start-finds : Finds (bringing now length) start-rows (start-faults now length)
-  unfolding wrong-length too-late
-  start-finds = ((refl, length-tells length), ((refl, late-tells now), tt))
+module _ (by : Starting) (now : Time) (length measurement : ℕ) where
+  start-finds : Finds (record { by = by; time = now; length = length; measurement = measurement }) start-rows (start-faults by now length measurement)
+  unfolding wrong-length
+  start-finds = ((refl, length-tells length), ((refl, turned-down-tells by measurement), ((refl, late-tells now), tt)))
 
-  pub start-refused-only : First (start-faults now length) (start-refusal now length)
+  pub start-refused-only : First (start-faults by now length measurement) (start-refusal by now length measurement)
   unfolding start-refusal
-  start-refused-only = found-first _ start-rows (start-faults now length) start-finds
+  start-refused-only = found-first _ start-rows (start-faults by now length measurement) start-finds
 
-  pub start-refused-whole : (n : ℕ) → First (start-faults now length) n → start-refusal now length ≡ n
+  pub start-refused-whole : (n : ℕ) → First (start-faults by now length measurement) n → start-refusal by now length measurement ≡ n
   unfolding start-refusal
-  start-refused-whole n p = first-is-found _ start-rows (start-faults now length) start-finds n p
+  start-refused-whole n p = first-is-found _ start-rows (start-faults by now length measurement) start-finds n p
 
 -- so an accepted pin report follows on
 is-true : (b : Bool) → not b ≡ false → b ≡ true

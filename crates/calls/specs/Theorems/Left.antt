@@ -11,7 +11,8 @@ use Rattle.i2c.specs.declared.types.Levels.{Levels}
 use Rattle.deadlines.specs.declared.Deadline.{Deadline}
 use Rattle.calls.specs.declared.types.Call.{Call}
 use Rattle.calls.specs.declared.types.Call.the-variants as Call
-use Rattle.calls.specs.Facts.{bringing, facts}
+use Rattle.calls.specs.declared.types.Starting.{Starting}
+use Rattle.calls.specs.Facts.{facts}
 use Rattle.calls.specs.Table.{rows, start-rows, first-found, wrong-length, too-late, goes-back, out-of-range, jumps, before-due, beside-due, refusal, start-refusal, unless-refused}
 use Rattle.calls.specs.Theorems.Found.{never, Clear, clear-is}
 
@@ -28,18 +29,18 @@ pub clear : (last : Time) (due : Deadline) (lines : Levels) (c : Call) → eqb (
 unfolding refusal
 clear last due lines c e = clear-is _ rows (omega arith) (eqb-true _ 0 e)
 
-pub start-clear : (now : Time) (n : ℕ) → eqb (start-refusal now n) 0 ≡ true → Clear (bringing now n) start-rows
+pub start-clear : (by : Starting) (now : Time) (n m : ℕ) → eqb (start-refusal by now n m) 0 ≡ true → Clear (record { by = by; time = now; length = n; measurement = m }) start-rows
 unfolding start-refusal
-start-clear now n e = clear-is _ start-rows (omega arith) (eqb-true _ 0 e)
+start-clear by now n m e = clear-is _ start-rows (omega arith) (eqb-true _ 0 e)
 
 is-nineteen : (n : ℕ) (b : Bool) → eqb n 19 ≡ b → not b ≡ false → n ≡ 19
 is-nineteen n true e p = eqb-true n 19 e
 is-nineteen n false e p = never (sym p)
 
 -- so its image or buffer has 19 bytes
-pub start-length : (now : Time) (n : ℕ) → eqb (start-refusal now n) 0 ≡ true → n ≡ 19
+pub start-length : (by : Starting) (now : Time) (n m : ℕ) → eqb (start-refusal by now n m) 0 ≡ true → n ≡ 19
 unfolding wrong-length
-start-length now n e = is-nineteen n (eqb n 19) refl (start-clear now n e .0)
+start-length by now n m e = is-nineteen n (eqb n 19) refl (start-clear by now n m e .0)
 
 pub buffer-length : (last : Time) (due : Deadline) (lines : Levels) (now : Time) (n : ℕ) → eqb (refusal last due lines (Call.StoredImage now n)) 0 ≡ true → n ≡ 19
 unfolding facts wrong-length

@@ -11,15 +11,16 @@ use Rattle.deadlines.specs.Deadlines.{is-at, is-by}
 use Rattle.calls.specs.declared.types.Timed.{Timed}
 use Rattle.calls.specs.declared.types.Timed.the-variants as Timed
 use Rattle.calls.specs.declared.types.Call.the-variants as Call
+use Rattle.calls.specs.declared.types.Starting.the-variants as Starting
 use Rattle.calls.specs.Facts.{timed-facts, facts}
-use Rattle.calls.specs.Table.{wrong-length, beyond, any-beyond, out-of-range, jumps, late, too-late, goes-back, due-by, due-at, before-due, beside-due, first-found, rows, start-rows, refusal, start-refusal}
+use Rattle.calls.specs.Table.{wrong-length, beyond, any-beyond, out-of-range, jumps, late, too-late, goes-back, due-by, due-at, before-due, beside-due, reserved, turned-down, first-found, rows, start-rows, refusal, start-refusal}
 use Rattle.calls.specs.Theorems.Found.{numbers}
 
 -- 01's order
 pub order : numbers rows ≡ 1 ∷ 3 ∷ 4 ∷ 2 ∷ 8 ∷ 5 ∷ 6 ∷ []
 order = refl
 
-pub start-order : numbers start-rows ≡ 1 ∷ 3 ∷ []
+pub start-order : numbers start-rows ≡ 1 ∷ 9 ∷ 3 ∷ []
 start-order = refl
 
 -- whole seconds
@@ -40,8 +41,24 @@ abbrev high : Levels
 high = levels true true
 
 -- with all faults, and then without the one that was found
+-- bytes of register 14 with both reserved codes, range code 3 alone, bandwidth code 7 alone, neither
 abbrev starts : List ℕ
-starts = start-refusal far 18 ∷ start-refusal far 19 ∷ start-refusal (s 9) 19 ∷ []
+starts =
+    start-refusal Starting.Checked far 18 0x1f
+    ∷ start-refusal Starting.Checked far 19 0x1f
+    ∷ start-refusal Starting.Checked far 19 0x18
+    ∷ start-refusal Starting.Checked far 19 0x07
+    ∷ start-refusal Starting.Checked far 19 0xf6
+    ∷ start-refusal Starting.Checked (s 9) 19 0xf6
+    ∷ []
+
+-- with both reserved codes throughout
+abbrev stored-starts : List ℕ
+stored-starts =
+    start-refusal Starting.Stored far 20 0x1f
+    ∷ start-refusal Starting.Stored far 19 0x1f
+    ∷ start-refusal Starting.Stored (s 9) 19 0x1f
+    ∷ []
 
 abbrev stored-images : List ℕ
 stored-images =
@@ -85,7 +102,8 @@ pin-reports =
     ∷ []
 
 pub record Ordered : Type 0 where
-  pub start : starts ≡ 1 ∷ 3 ∷ 0 ∷ []
+  pub start : starts ≡ 1 ∷ 9 ∷ 9 ∷ 9 ∷ 3 ∷ 0 ∷ []
+  pub stored-start : stored-starts ≡ 1 ∷ 3 ∷ 0 ∷ []
   pub stored-image : stored-images ≡ 1 ∷ 3 ∷ 4 ∷ 0 ∷ []
   pub accelerations : accelerations ≡ 3 ∷ 4 ∷ 2 ∷ 5 ∷ 0 ∷ []
   pub supply : timed (Timed.Supply 0) ≡ 3 ∷ 4 ∷ 5 ∷ 0 ∷ 0 ∷ []
@@ -95,5 +113,5 @@ pub record Ordered : Type 0 where
   pub due : timed Timed.Due ≡ 3 ∷ 4 ∷ 0 ∷ 6 ∷ 6 ∷ []
 
 pub ordered : Ordered
-unfolding timed-facts facts wrong-length beyond any-beyond out-of-range jumps late too-late goes-back due-by due-at before-due beside-due first-found refusal start-refusal is-at is-by
-ordered = record { start = refl; stored-image = refl; accelerations = refl; supply = refl; rising = refl; falling = refl; pins = refl; due = refl }
+unfolding timed-facts facts wrong-length beyond any-beyond out-of-range jumps late too-late goes-back due-by due-at before-due beside-due reserved turned-down first-found refusal start-refusal is-at is-by
+ordered = record { start = refl; stored-start = refl; stored-image = refl; accelerations = refl; supply = refl; rising = refl; falling = refl; pins = refl; due = refl }

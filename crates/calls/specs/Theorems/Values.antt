@@ -17,7 +17,8 @@ refusal n =
     (cond (eqb n 3) Refusal.TimeLimit
     (cond (eqb n 4) Refusal.TimeBack
     (cond (eqb n 5) Refusal.DueFirst
-    (cond (eqb n 6) Refusal.NotDue (cond (eqb n 7) Refusal.Command Refusal.PinJump))))))
+    (cond (eqb n 6) Refusal.NotDue
+    (cond (eqb n 7) Refusal.Command (cond (eqb n 8) Refusal.PinJump Refusal.ReservedCode)))))))
 
 abbrev outcome : ℕ → Outcome
 outcome n = cond (eqb n 0) Outcome.Accepted (Outcome.Refused (refusal n))
@@ -33,6 +34,7 @@ outcome-number (Outcome.Refused Refusal.DueFirst) = refl
 outcome-number (Outcome.Refused Refusal.NotDue) = refl
 outcome-number (Outcome.Refused Refusal.Command) = refl
 outcome-number (Outcome.Refused Refusal.PinJump) = refl
+outcome-number (Outcome.Refused Refusal.ReservedCode) = refl
 
 pub number-injective : (a b : Outcome) → number a ≡ number b → a ≡ b
 number-injective a b p = sym (outcome-number a) ∙ ap outcome p ∙ outcome-number b
@@ -48,3 +50,4 @@ refused-number Refusal.DueFirst = refl
 refused-number Refusal.NotDue = refl
 refused-number Refusal.Command = refl
 refused-number Refusal.PinJump = refl
+refused-number Refusal.ReservedCode = refl

@@ -46,9 +46,12 @@ returns-6 : tie.Need-returns-6
 unfolding decode-06-to-0b
 returns-6 c = simp (ne-eqb _ _ (c .before .before .before .before .before .before .if1 .left), ne-eqb _ _ (c .before .before .before .before .before .if2 .left), ne-eqb _ _ (c .before .before .before .before .if3 .left), ne-eqb _ _ (c .before .before .before .if4 .left), ne-eqb _ _ (c .before .before .if5 .left), eq-eqb _ _ (c .before .if6 .taken)) (c .view .ensures)
 
+decode-from-0c-requires : tie.Need-decode-from-0c-requires
+decode-from-0c-requires c κs = search needs
+
 returns-7 : tie.Need-returns-7
 unfolding decode-06-to-0b
-returns-7 c = simp (ne-eqb _ _ (c .before .before .before .before .before .if1 .left), ne-eqb _ _ (c .before .before .before .before .if2 .left), ne-eqb _ _ (c .before .before .before .if3 .left), ne-eqb _ _ (c .before .before .if4 .left), ne-eqb _ _ (c .before .if5 .left), ne-eqb _ _ (c .if6 .left))
+returns-7 c = simp (ne-eqb _ _ (c .before .before .before .before .before .before .if1 .left), ne-eqb _ _ (c .before .before .before .before .before .if2 .left), ne-eqb _ _ (c .before .before .before .before .if3 .left), ne-eqb _ _ (c .before .before .before .if4 .left), ne-eqb _ _ (c .before .before .if5 .left), ne-eqb _ _ (c .before .if6 .left)) (c .decode-from-0c .ensures)
 
 pub decode-06-to-0b-spec : {M : Type 1} → statement M
 decode-06-to-0b-spec =
@@ -66,4 +69,5 @@ decode-06-to-0b-spec =
     returns-5
     view-requires
     returns-6
+    decode-from-0c-requires
     returns-7)

@@ -13,9 +13,11 @@ use Rattle.calls.specs.declared.types.Timed.{Timed}
 use Rattle.calls.specs.declared.types.Timed.the-variants as Timed
 use Rattle.calls.specs.declared.types.Call.{Call}
 use Rattle.calls.specs.declared.types.Call.the-variants as Call
+use Rattle.calls.specs.declared.types.Starting.{Starting}
+use Rattle.calls.specs.declared.types.Starting.the-variants as Starting
 use Rattle.commands.specs.declared.Command.{Command}
 use Rattle.commands.specs.declared.Command.the-variants as Command
-use Rattle.commands.specs.Decode.{part, big, number-at, moment-at, signed-at, byte-at, within, either-of, lines, start, image, accelerations, temperature, supply, due, select, rising, falling, pins, stored-image, view, decode-06-to-0b, decode-01-to-05, decoded, wants-06-to-0b, wants, timed, timed-size, call-size, size, is-bad}
+use Rattle.commands.specs.Decode.{part, big, number-at, moment-at, signed-at, byte-at, within, either-of, lines, start, image, accelerations, temperature, supply, due, select, rising, falling, pins, stored-image, view, decode-from-0c, decode-06-to-0b, decode-01-to-05, decoded, wants-from-0c, wants-06-to-0b, wants, timed, timed-size, call-size, size, is-bad}
 
 -- ---- what follows does not alter the command at the head
 
@@ -42,6 +44,10 @@ either-some : (t : Bool) (a b : ℕ) → 0 < a → 0 < b → 0 < cond t a b
 either-some true a b p q = p
 either-some false a b p q = q
 
+wants-from-0c-some : (c : ℕ) → 0 < wants-from-0c c
+unfolding wants-from-0c
+wants-from-0c-some c = either-some (eqb c 12) _ _ (omega arith) (omega arith)
+
 wants-06-to-0b-some : (c : ℕ) → 0 < wants-06-to-0b c
 unfolding wants-06-to-0b
 wants-06-to-0b-some c =
@@ -50,7 +56,7 @@ wants-06-to-0b-some c =
     (either-some (eqb c 8) _ _ (omega arith)
     (either-some (eqb c 9) _ _ (omega arith)
     (either-some (eqb c 10) _ _ (omega arith)
-    (either-some (eqb c 11) _ _ (omega arith) (omega arith))))))
+    (either-some (eqb c 11) _ _ (omega arith) (wants-from-0c-some c))))))
 
 pub wants-some : (c : ℕ) → 0 < wants c
 unfolding wants
@@ -96,9 +102,9 @@ module _ (l m : List ℕ) where
   b-same : (a : ℕ) → a < length l → byte-at a (l ++ m) ≡ byte-at a l
   b-same a h = List·getD-append l m 0 a h
 
-  start-same : Has l 32 (start l) → start (l ++ m) ≡ start l
+  start-same : (by : Starting) → Has l 32 (start by l) → start by (l ++ m) ≡ start by l
   unfolding start
-  start-same = same 32 _ _ (λ p. rw (t-same (omega arith)))
+  start-same by = same 32 _ _ (λ p. rw (t-same (omega arith)))
 
   accelerations-same : Has l 25 (accelerations l) → accelerations (l ++ m) ≡ accelerations l
   unfolding accelerations
@@ -146,6 +152,10 @@ module _ (l m : List ℕ) where
   pick true a b c d x y p q g = p g
   pick false a b c d x y p q g = q g
 
+  decode-from-0c-same : (c : ℕ) → Has l (wants-from-0c c) (decode-from-0c c l) → decode-from-0c c (l ++ m) ≡ decode-from-0c c l
+  unfolding decode-from-0c wants-from-0c
+  decode-from-0c-same c = pick (eqb c 12) _ _ _ _ _ _ (start-same Starting.Stored) (λ g. refl)
+
   decode-06-to-0b-same : (c : ℕ) → Has l (wants-06-to-0b c) (decode-06-to-0b c l) → decode-06-to-0b c (l ++ m) ≡ decode-06-to-0b c l
   unfolding decode-06-to-0b wants-06-to-0b
   decode-06-to-0b-same c =
@@ -154,12 +164,12 @@ module _ (l m : List ℕ) where
       (pick (eqb c 8) _ _ _ _ _ _ falling-same
       (pick (eqb c 9) _ _ _ _ _ _ pins-same
       (pick (eqb c 10) _ _ _ _ _ _ stored-image-same
-      (pick (eqb c 11) _ _ _ _ _ _ view-same (λ g. refl))))))
+      (pick (eqb c 11) _ _ _ _ _ _ view-same (decode-from-0c-same c))))))
 
   decode-01-to-05-same : (c : ℕ) → Has l (wants c) (decode-01-to-05 c l) → decode-01-to-05 c (l ++ m) ≡ decode-01-to-05 c l
   unfolding decode-01-to-05 wants
   decode-01-to-05-same c =
-      pick (eqb c 1) _ _ _ _ _ _ start-same
+      pick (eqb c 1) _ _ _ _ _ _ (start-same Starting.Checked)
       (pick (eqb c 2) _ _ _ _ _ _ accelerations-same
       (pick (eqb c 3) _ _ _ _ _ _ temperature-same
       (pick (eqb c 4) _ _ _ _ _ _ supply-same
@@ -204,7 +214,7 @@ call-size-pos (Call.StoredImage t n) = omega arith
 
 pub size-pos : (c : Command) → 1 ≤ size c
 unfolding size
-size-pos (Command.Start t) = omega arith
+size-pos (Command.Start by t) = omega arith
 size-pos (Command.Host c) = call-size-pos c
 size-pos Command.Bad = omega arith
 
@@ -226,9 +236,9 @@ module _ (l : List ℕ) (some : 0 < length l) where
   in-fits : (n : ℕ) (c : Command) → size c ≤ n → size (within n l c) ≤ length l
   in-fits n c h = by-test n c h (ltb (length l) n) refl
 
-  start-fits : size (start l) ≤ length l
+  start-fits : (by : Starting) → size (start by l) ≤ length l
   unfolding start size
-  start-fits = in-fits 32 _ (omega arith)
+  start-fits by = in-fits 32 _ (omega arith)
 
   accelerations-fits : size (accelerations l) ≤ length l
   unfolding accelerations size call-size timed-size
@@ -278,6 +288,10 @@ module _ (l : List ℕ) (some : 0 < length l) where
   unfolding view size call-size
   view-fits = in-fits 2 _ (omega arith)
 
+  decode-from-0c-fits : (c : ℕ) → size (decode-from-0c c l) ≤ length l
+  unfolding decode-from-0c
+  decode-from-0c-fits c = either (eqb c 12) _ _ (start-fits Starting.Stored) bad-fits
+
   decode-06-to-0b-fits : (c : ℕ) → size (decode-06-to-0b c l) ≤ length l
   unfolding decode-06-to-0b
   decode-06-to-0b-fits c =
@@ -286,12 +300,12 @@ module _ (l : List ℕ) (some : 0 < length l) where
       (either (eqb c 8) _ _ falling-fits
       (either (eqb c 9) _ _ pins-fits
       (either (eqb c 10) _ _ stored-image-fits
-      (either (eqb c 11) _ _ view-fits bad-fits)))))
+      (either (eqb c 11) _ _ view-fits (decode-from-0c-fits c))))))
 
   decode-01-to-05-fits : (c : ℕ) → size (decode-01-to-05 c l) ≤ length l
   unfolding decode-01-to-05
   decode-01-to-05-fits c =
-      either (eqb c 1) _ _ start-fits
+      either (eqb c 1) _ _ (start-fits Starting.Checked)
       (either (eqb c 2) _ _ accelerations-fits
       (either (eqb c 3) _ _ temperature-fits
       (either (eqb c 4) _ _ supply-fits
@@ -302,26 +316,26 @@ module _ (l : List ℕ) (some : 0 < length l) where
   size-fits = either (ltb 0 (length l)) _ _ (decode-01-to-05-fits (byte-at 0 l)) bad-fits
 
 -- a start has its image
-bad-start : (t : Time) → Command.Bad ≡ Command.Start t → ⊥
+bad-start : (by : Starting) (t : Time) → Command.Bad ≡ Command.Start by t → ⊥
 unfolding size
-bad-start t e =
+bad-start by t e =
     let z : _≡_ {A = ℕ} 1 32 = ap size e in
     omega arith
 
-started-fits : (l : List ℕ) (t : Time) (z : Bool) → ltb 0 (length l) ≡ z → decoded l ≡ Command.Start t → 32 ≤ length l
+started-fits : (l : List ℕ) (by : Starting) (t : Time) (z : Bool) → ltb 0 (length l) ≡ z → decoded l ≡ Command.Start by t → 32 ≤ length l
 unfolding size decoded
-started-fits l t true g e = let p : size (decoded l) ≤ length l = size-fits l (ltb-true 0 (length l) g) in rw e at p
-started-fits l t false g e = let p : decoded l ≡ Command.Bad = rw g in absurd (bad-start t (sym p ∙ e))
+started-fits l by t true g e = let p : size (decoded l) ≤ length l = size-fits l (ltb-true 0 (length l) g) in rw e at p
+started-fits l by t false g e = let p : decoded l ≡ Command.Bad = rw g in absurd (bad-start by t (sym p ∙ e))
 
-pub image-there : (l : List ℕ) (t : Time) → decoded l ≡ Command.Start t → 32 ≤ length l
-image-there l t e = started-fits l t (ltb 0 (length l)) refl e
+pub image-there : (l : List ℕ) (by : Starting) (t : Time) → decoded l ≡ Command.Start by t → 32 ≤ length l
+image-there l by t e = started-fits l by t (ltb 0 (length l)) refl e
 
 -- ---- an unknown byte is a bad command, whatever follows
 
-pub unknown : (b : ℕ) (m : List ℕ) → 11 < b → decoded (b ∷ m) ≡ Command.Bad
-unfolding decoded decode-01-to-05 decode-06-to-0b
+pub unknown : (b : ℕ) (m : List ℕ) → 12 < b → decoded (b ∷ m) ≡ Command.Bad
+unfolding decoded decode-01-to-05 decode-06-to-0b decode-from-0c
 unknown b m h =
-    let other : (k : ℕ) → k ≤ 11 → eqb b k ≡ false = λ k g. ne-eqb b k (λ (e : b ≡ k). omega arith) in
+    let other : (k : ℕ) → k ≤ 12 → eqb b k ≡ false = λ k g. ne-eqb b k (λ (e : b ≡ k). omega arith) in
     let some : 0 < length (b ∷ m) = omega arith in
     rw (
       lt-ltb 0 (length (b ∷ m)) some,
@@ -336,4 +350,5 @@ unknown b m h =
       other 9 (omega arith),
       other 10 (omega arith),
       other 11 (omega arith),
+      other 12 (omega arith),
     )

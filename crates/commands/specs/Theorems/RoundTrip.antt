@@ -15,10 +15,12 @@ use Rattle.calls.specs.declared.types.Timed.{Timed}
 use Rattle.calls.specs.declared.types.Timed.the-variants as Timed
 use Rattle.calls.specs.declared.types.Call.{Call}
 use Rattle.calls.specs.declared.types.Call.the-variants as Call
+use Rattle.calls.specs.declared.types.Starting.{Starting}
+use Rattle.calls.specs.declared.types.Starting.the-variants as Starting
 use Rattle.commands.specs.declared.Command.{Command}
 use Rattle.commands.specs.declared.Command.the-variants as Command
-use Rattle.commands.specs.Decode.{big, number-at, signed, moment-at, bit, timed, within, lines, start, image, accelerations, temperature, supply, due, select, rising, falling, pins, stored-image, view, decode-01-to-05, decode-06-to-0b, decoded, timed-size, call-size, size}
-use Rattle.commands.specs.Encode.{bytes, time-bytes, complement, lines-byte, timed-bytes, call-bytes, encoded, Time-fits, Signed-fits, Timed-fits, Call-fits, Fits}
+use Rattle.commands.specs.Decode.{big, number-at, signed, moment-at, bit, timed, within, lines, start, image, accelerations, temperature, supply, due, select, rising, falling, pins, stored-image, view, decode-01-to-05, decode-from-0c, decode-06-to-0b, decoded, timed-size, call-size, size}
+use Rattle.commands.specs.Encode.{bytes, time-bytes, complement, lines-byte, timed-bytes, call-bytes, start-byte, encoded, Time-fits, Signed-fits, Timed-fits, Call-fits, Fits}
 use Rattle.commands.specs.Theorems.Laws.{big-more}
 use Rattle.commands.specs.Theorems.More.{unknown}
 
@@ -109,17 +111,20 @@ call-back (Call.StoredImage t n) rest f = read 0x0a 13 _ _ _ refl (omega arith) 
 
 -- the command is read back, whatever follows
 pub round-trip : (c : Command) (image rest : List ℕ) → Fits c image → decoded (encoded c image ++ rest) ≡ c
-unfolding encoded Fits time-bytes bytes decode-01-to-05 start
-round-trip (Command.Start t) image rest f =
-    let h : 32 ≤ length (encoded (Command.Start t) image ++ rest) = simp length-append (omega arith) in
+unfolding encoded start-byte Fits time-bytes bytes decode-01-to-05 decode-06-to-0b decode-from-0c start
+round-trip (Command.Start Starting.Checked t) image rest f =
+    let h : 32 ≤ length (encoded (Command.Start Starting.Checked t) image ++ rest) = simp length-append (omega arith) in
     read 0x01 32 _ _ _ refl h (rw (time-back 0x01 t (image ++ rest) (f .0)))
+round-trip (Command.Start Starting.Stored t) image rest f =
+    let h : 32 ≤ length (encoded (Command.Start Starting.Stored t) image ++ rest) = simp length-append (omega arith) in
+    read 0x0c 32 _ _ _ refl h (rw (time-back 0x0c t (image ++ rest) (f .0)))
 round-trip (Command.Host c) image rest f = call-back c rest f
 round-trip Command.Bad image rest f = unknown 0xff rest (omega arith)
 
 -- and so are the 19 bytes of a start
-pub image-round-trip : (t : Time) (given rest : List ℕ) → Fits (Command.Start t) given → image (encoded (Command.Start t) given ++ rest) ≡ given
+pub image-round-trip : (by : Starting) (t : Time) (given rest : List ℕ) → Fits (Command.Start by t) given → image (encoded (Command.Start by t) given ++ rest) ≡ given
 unfolding encoded Fits time-bytes bytes
-image-round-trip t given rest f = take-at given rest 19 (f .1)
+image-round-trip by t given rest f = take-at given rest 19 (f .1)
 
 -- ---- a command is as long as it is written
 
@@ -142,6 +147,6 @@ call-written (Call.StoredImage t n) = refl
 
 pub size-written : (c : Command) (image : List ℕ) → Fits c image → length (encoded c image) ≡ size c
 unfolding encoded Fits size time-bytes bytes
-size-written (Command.Start t) image f = rw (f .1)
+size-written (Command.Start by t) image f = rw (f .1)
 size-written (Command.Host c) image f = call-written c
 size-written Command.Bad image f = refl

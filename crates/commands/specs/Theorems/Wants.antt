@@ -7,9 +7,11 @@ use native.Mathlib.Omega.{arith}
 use borrow.Author.Tests.{lt-ltb}
 use lib.Dec.{ltb, eqb}
 use lib.ListN.{length}
+use Rattle.calls.specs.declared.types.Starting.{Starting}
+use Rattle.calls.specs.declared.types.Starting.the-variants as Starting
 use Rattle.commands.specs.declared.Command.{Command}
 use Rattle.commands.specs.declared.Command.the-variants as Command
-use Rattle.commands.specs.Decode.{byte-at, start, accelerations, temperature, supply, due, select, rising, falling, pins, stored-image, view, decode-06-to-0b, decode-01-to-05, decoded, wants-06-to-0b, wants, timed-size, call-size, size, is-bad}
+use Rattle.commands.specs.Decode.{byte-at, start, accelerations, temperature, supply, due, select, rising, falling, pins, stored-image, view, decode-from-0c, decode-06-to-0b, decode-01-to-05, decoded, wants-from-0c, wants-06-to-0b, wants, timed-size, call-size, size, is-bad}
 
 -- unless it is bad, the command takes n bytes
 abbrev Sized : ℕ → Command → Type 0
@@ -35,9 +37,9 @@ module _ (l : List ℕ) where
   there : (n : ℕ) (c : Command) → Sized n c → Sized n (cond (ltb (length l) n) Command.Bad c)
   there n c = either (ltb (length l) n) Command.Bad c (bad-sized n)
 
-  start-sized : Sized 32 (start l)
+  start-sized : (by : Starting) → Sized 32 (start by l)
   unfolding start size
-  start-sized = there 32 _ (λ e. refl)
+  start-sized by = there 32 _ (λ e. refl)
 
   accelerations-sized : Sized 25 (accelerations l)
   unfolding accelerations size call-size timed-size
@@ -79,6 +81,10 @@ module _ (l : List ℕ) where
   unfolding view size call-size
   view-sized = there 2 _ (λ e. refl)
 
+  sized-from-0c : (c : ℕ) → Sized (wants-from-0c c) (decode-from-0c c l)
+  unfolding decode-from-0c wants-from-0c
+  sized-from-0c c = pick (eqb c 12) _ _ _ _ (start-sized Starting.Stored) (bad-sized 1)
+
   sized-06-to-0b : (c : ℕ) → Sized (wants-06-to-0b c) (decode-06-to-0b c l)
   unfolding decode-06-to-0b wants-06-to-0b
   sized-06-to-0b c =
@@ -87,12 +93,12 @@ module _ (l : List ℕ) where
       (pick (eqb c 8) _ _ _ _ falling-sized
       (pick (eqb c 9) _ _ _ _ pins-sized
       (pick (eqb c 10) _ _ _ _ stored-image-sized
-      (pick (eqb c 11) _ _ _ _ view-sized (bad-sized 1))))))
+      (pick (eqb c 11) _ _ _ _ view-sized (sized-from-0c c))))))
 
   sized-01-to-05 : (c : ℕ) → Sized (wants c) (decode-01-to-05 c l)
   unfolding decode-01-to-05 wants
   sized-01-to-05 c =
-      pick (eqb c 1) _ _ _ _ start-sized
+      pick (eqb c 1) _ _ _ _ (start-sized Starting.Checked)
       (pick (eqb c 2) _ _ _ _ accelerations-sized
       (pick (eqb c 3) _ _ _ _ temperature-sized
       (pick (eqb c 4) _ _ _ _ supply-sized

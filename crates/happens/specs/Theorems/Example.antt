@@ -3,16 +3,17 @@ use Prim.Native.Nat.{_/_, _^_}
 use native.Mathlib.Omega.{arith}
 use mathlib.Core.Path.{refl}
 use Rattle.time.specs.Time.{time}
+use Rattle.calls.specs.declared.types.Starting.the-variants as Starting
 use Rattle.sensor.specs.Image.{stock}
 use Rattle.book.specs.Lists.{Start}
 use Rattle.calls.specs.Table as T
 use Rattle.happens.specs.Happens.{Wanted}
 
 abbrev stock-start : Start
-stock-start = record { time = time 0; image = stock }
+stock-start = record { by = Starting.Checked; time = time 0; image = stock }
 
 pub example : Wanted stock-start 0x2c 0xff (time (2 ^ 64 / 100))
-unfolding T.wrong-length T.late T.too-late T.first-found T.start-refusal
+unfolding T.wrong-length T.late T.too-late T.first-found T.reserved T.turned-down T.start-refusal
 example =
     record {
       start-fraction = omega arith;

@@ -1,17 +1,19 @@
 -- The sensor of an accepted start.
 use Prim.Native.Nat.{ℕ, _^_, _<_, _≤_}
 use native.Mathlib.Omega.{arith}
-use mathlib.Core.Path.{_≡_, refl}
-use mathlib.Core.Bool.{Bool, true, false, cond, not}
+use mathlib.Core.Path.{_≡_, refl, ap}
+use mathlib.Core.Bool.{true, false}
 use mathlib.Core.List.{List}
-use borrow.Author.Tests.{leb-false, eqb-true, not-false}
+use borrow.Author.Tests.{leb-false}
 use lib.Dec.{eqb, lit≤}
 use lib.ListN.{length}
 use lib.Seq.{length-paste}
 use Rattle.time.specs.declared.Time.{Time}
+use Rattle.calls.specs.declared.types.Starting.{Starting}
+use Rattle.calls.specs.Theorems.Left.{start-clear, start-length}
 use Rattle.calls.specs.Table as T
 use Rattle.sensor.specs.Image.{reset-registers, from-nonvolatile}
-use Rattle.bma150.specs.Called.{start-number, after-start}
+use Rattle.bma150.specs.Called.{measurement-of, start-number, after-start}
 use Rattle.book.specs.Lists.{Start, started}
 use Rattle.happens.specs.Happens.{Wanted}
 use Rattle.happens.specs.Theorems.Holding.{host}
@@ -19,24 +21,17 @@ use Rattle.happens.specs.Theorems.Writes.{Awake}
 
 -- ---- what acceptance says of the start
 
--- the first of two refusals does not hold, nor the second
-neither : (a b : Bool) → _≡_ {A = ℕ} (cond a 1 (cond b 3 0)) 0 → (a ≡ false) × (b ≡ false)
-neither true b e = absurd (omega (arith, e))
-neither false true e = absurd (omega (arith, e))
-neither false false e = (refl, refl)
-
-module _ (t : Time) (image : List ℕ) (e : start-number t image ≡ 0) where
-  unrefused : (not (eqb (length image) 19) ≡ false) × (T.late t ≡ false)
-  unfolding T.start-refusal T.first-found T.wrong-length T.too-late
-  unrefused = neither (not (eqb (length image) 19)) (T.late t) e
+module _ (by : Starting) (t : Time) (image : List ℕ) (e : start-number by t image ≡ 0) where
+  taken : eqb (start-number by t image) 0 ≡ true
+  taken = ap (λ (n : ℕ). eqb n 0) e
 
   start-in-time : T.late t ≡ false
-  start-in-time = unrefused .1
+  start-in-time = start-clear by t (length image) (measurement-of image) taken .1 .1 .0
 
   nineteen : length image ≡ 19
-  nineteen = eqb-true (length image) 19 (not-false (eqb (length image) 19) (unrefused .0))
+  nineteen = start-length by t (length image) (measurement-of image) taken
 
-  start-is : after-start t image ≡ host t (from-nonvolatile t image)
+  start-is : after-start by t image ≡ host t (from-nonvolatile t image)
   unfolding after-start T.unless-refused
   start-is = rw e
 
@@ -54,7 +49,7 @@ module _ (t : Time) (image : List ℕ) (e : start-number t image ≡ 0) where
 module _ {b : Start} {a x : ℕ} {at : Time} (w : Wanted b a x at) where
   -- its time is below the limit
   pub in-time : T.late (b .time) ≡ false
-  in-time = start-in-time (b .time) (b .image) (w .start-accepted)
+  in-time = start-in-time (b .by) (b .time) (b .image) (w .start-accepted)
 
   -- its whole seconds
   pub few-seconds : b .time .0 < 2 ^ 32
@@ -67,8 +62,8 @@ module _ {b : Start} {a x : ℕ} {at : Time} (w : Wanted b a x at) where
 
   -- its sensor
   pub started-is : started b ≡ host (b .time) (from-nonvolatile (b .time) (b .image))
-  started-is = start-is (b .time) (b .image) (w .start-accepted)
+  started-is = start-is (b .by) (b .time) (b .image) (w .start-accepted)
 
   -- which is awake
   pub started-awake : Awake (b .time) (b .image) false (from-nonvolatile (b .time) (b .image))
-  started-awake = start-awake (b .time) (b .image) (w .start-accepted)
+  started-awake = start-awake (b .by) (b .time) (b .image) (w .start-accepted)

@@ -9,6 +9,7 @@ use lib.ListN.{length, drop, length-drop, take-append-drop}
 use lib.Seq.{getD-drop}
 use Rattle.time.specs.declared.Time.{Time}
 use Rattle.calls.specs.declared.types.Call.{Call}
+use Rattle.calls.specs.declared.types.Starting.{Starting}
 use Rattle.commands.specs.declared.Command.{Command}
 use Rattle.commands.specs.declared.Command.the-variants as Command
 use Rattle.commands.specs.Decode.{decoded, image, size, is-bad}
@@ -62,9 +63,9 @@ call-good : (c : Call) → is-bad (Command.Host c) ≡ false
 unfolding is-bad
 call-good c = refl
 
-start-good : (t : Time) → is-bad (Command.Start t) ≡ false
+start-good : (by : Starting) (t : Time) → is-bad (Command.Start by t) ≡ false
 unfolding is-bad
-start-good t = refl
+start-good by t = refl
 
 one-more : (b : ℕ) (m : List ℕ) (c : Call) (cs : List Call) → Bytes (b ∷ m) → decoded (b ∷ m) ≡ Command.Host c
     → Is-calls (drop (size (decoded (b ∷ m))) (b ∷ m)) cs → Is-calls (b ∷ m) (c ∷ cs)
@@ -98,16 +99,16 @@ pub record Is-run (l : List ℕ) (b : Start) (cs : List Call) : Type 0 where
   pub start-fits : Start-fits b
   pub fit : All-fit cs
 
-pub input-is-run : (l : List ℕ) (t : Time) (cs : List Call) → Bytes l → asked l ≡ Command.Start t ∷ map Command.Host cs → Is-run l (record { time = t; image = image l }) cs
+pub input-is-run : (l : List ℕ) (by : Starting) (t : Time) (cs : List Call) → Bytes l → asked l ≡ Command.Start by t ∷ map Command.Host cs → Is-run l (record { by = by; time = t; image = image l }) cs
 unfolding first-commands encoded Fits
-input-is-run [] t cs all e = absurd (nil≢cons e)
-input-is-run (b ∷ m) t cs all e =
-    let p : decoded (b ∷ m) ≡ Command.Start t = first-asked (length m) b m (Command.Start t) (map Command.Host cs) e in
+input-is-run [] by t cs all e = absurd (nil≢cons e)
+input-is-run (b ∷ m) by t cs all e =
+    let p : decoded (b ∷ m) ≡ Command.Start by t = first-asked (length m) b m (Command.Start by t) (map Command.Host cs) e in
     let r : Is-calls (drop (size (decoded (b ∷ m))) (b ∷ m)) cs =
-    calls-written (length m) (drop (size (decoded (b ∷ m))) (b ∷ m)) cs (others-fewer b m (Command.Start t) p (start-good t) (length m) (le-refl (length m))) (tail-bytes (size (decoded (b ∷ m))) (b ∷ m) all)
-    (others-asked b m (Command.Start t) p (start-good t) (length m) (map Command.Host cs) e) in
+    calls-written (length m) (drop (size (decoded (b ∷ m))) (b ∷ m)) cs (others-fewer b m (Command.Start by t) p (start-good by t) (length m) (le-refl (length m))) (tail-bytes (size (decoded (b ∷ m))) (b ∷ m) all)
+    (others-asked b m (Command.Start by t) p (start-good by t) (length m) (map Command.Host cs) e) in
     record {
-      is = head-written b m (Command.Start t) p (start-good t) all ∙ ap (λ (x : List ℕ). encoded (Command.Start t) (image (b ∷ m)) ++ x) (r .is);
-      start-fits = head-fits b m (Command.Start t) p (start-good t) all;
+      is = head-written b m (Command.Start by t) p (start-good by t) all ∙ ap (λ (x : List ℕ). encoded (Command.Start by t) (image (b ∷ m)) ++ x) (r .is);
+      start-fits = head-fits b m (Command.Start by t) p (start-good by t) all;
       fit = r .fit;
     }

@@ -12,6 +12,6 @@ use Rattle.printed.specs.Lines.{call-of, text-of, Prints}
 module _ (trace : Bool) (b : ℕ) (s : Bma150) where
   pub printed : (c : Command) (image : List ℕ) → Prints trace b s c image (call-of c)
   unfolding call-of text-of L.commanded L.line L.pins
-  printed (Command.Start t) image = tt
+  printed (Command.Start by t) image = tt
   printed (Command.Host c) image = (refl, refl)
   printed Command.Bad image = tt

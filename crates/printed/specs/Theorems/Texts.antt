@@ -18,7 +18,7 @@ use Rattle.machine.specs.Theorems.Whole.{whole-is}
 use Rattle.commands.specs.declared.Command.{Command}
 use Rattle.commands.specs.declared.Command.the-variants as Command
 use Rattle.commands.specs.Decode.{decoded, image, size, is-bad}
-use Rattle.commands.specs.Encode.{encoded, Fits}
+use Rattle.commands.specs.Encode.{start-byte, encoded, Fits}
 use Rattle.commands.specs.Theorems.More.{size-pos}
 use Rattle.commands.specs.Theorems.RoundTrip.{round-trip, image-round-trip, size-written}
 use Rattle.book.specs.Lists.{Start, started, after, answer, answers}
@@ -36,7 +36,7 @@ use Rattle.printed.specs.Theorems.Commands.{goes-on}
 -- no command but a start looks at an image
 same-image : (s : Bma150) (c : Command) (given k : List ℕ) → Fits c given → commanded s c (image (encoded c given ++ k)) ≡ commanded s c given
 unfolding commanded
-same-image s (Command.Start t) given k f = ap (λ (l : List ℕ). commanded s (Command.Start t) l) (image-round-trip t given k f)
+same-image s (Command.Start by t) given k f = ap (λ (l : List ℕ). commanded s (Command.Start by t) l) (image-round-trip by t given k f)
 same-image s (Command.Host c) given k f = refl
 same-image s Command.Bad given k f = refl
 
@@ -91,17 +91,17 @@ module _ (trace : Bool) where
 
 -- ---- a start and calls
 
-module _ (trace : Bool) (s : Bma150) (b : Start) (fits : Start-fits b) (accepted : start-number (b .time) (b .image) ≡ 0) where
+module _ (trace : Bool) (s : Bma150) (b : Start) (fits : Start-fits b) (accepted : start-number (b .by) (b .time) (b .image) ≡ 0) where
   -- whatever the sensor before it
-  start-does : commanded s (Command.Start (b .time)) (b .image) ≡ L.silent (started b) 0
+  start-does : commanded s (Command.Start (b .by) (b .time)) (b .image) ≡ L.silent (started b) 0
   unfolding commanded L.started
   start-does = rw accepted
 
   start-goes : (k : List ℕ) → Goes (bench trace) s (start-bytes b ++ k) (start-line trace b) (started b) k false
   unfolding encoded Fits is-bad
   start-goes k =
-      subst (λ (x : Called). Goes (bench trace) s (start-bytes b ++ k) (L.line trace 0x01 x) (x .sensor) k false) start-does
-      (command-goes trace s (Command.Start (b .time)) (b .image) k fits)
+      subst (λ (x : Called). Goes (bench trace) s (start-bytes b ++ k) (L.line trace (start-byte (b .by)) x) (x .sensor) k false) start-does
+      (command-goes trace s (Command.Start (b .by) (b .time)) (b .image) k fits)
 
   module _ (cs : List Call) (calls-fit : All-fit cs) where
     run-goes : (k : List ℕ) → Goes (bench trace) s (start-bytes b ++ inputs cs ++ k) (start-line trace b ++ texts trace cs (answers (started b) cs)) (after (started b) cs) k false

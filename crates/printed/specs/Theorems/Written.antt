@@ -13,10 +13,12 @@ use lib.ListN.{length, take, drop, getD, length-drop}
 use lib.Seq.{take-add, length-take-le}
 use Rattle.time.specs.declared.Time.{Time}
 use Rattle.calls.specs.declared.types.Timed.the-variants as Timed
+use Rattle.calls.specs.declared.types.Starting.{Starting}
+use Rattle.calls.specs.declared.types.Starting.the-variants as Starting
 use Rattle.commands.specs.declared.Command.{Command}
 use Rattle.commands.specs.declared.Command.the-variants as Command
-use Rattle.commands.specs.Decode.{part, number-at, signed, moment-at, byte-at, bit, levels, timed, start, image, accelerations, temperature, supply, due, select, rising, falling, pins, stored-image, view, decode-06-to-0b, decode-01-to-05, decoded, timed-size, call-size, size, is-bad}
-use Rattle.commands.specs.Encode.{bytes, time-bytes, complement, weighed, lines-byte, timed-bytes, call-bytes, encoded, Time-fits, Signed-fits, Timed-fits, Call-fits, Fits}
+use Rattle.commands.specs.Decode.{part, number-at, signed, moment-at, byte-at, bit, levels, timed, start, image, accelerations, temperature, supply, due, select, rising, falling, pins, stored-image, view, decode-from-0c, decode-06-to-0b, decode-01-to-05, decoded, timed-size, call-size, size, is-bad}
+use Rattle.commands.specs.Encode.{start-byte, bytes, time-bytes, complement, weighed, lines-byte, timed-bytes, call-bytes, encoded, Time-fits, Signed-fits, Timed-fits, Call-fits, Fits}
 use Rattle.commands.specs.Theorems.Laws.{number-more, part-more}
 use Rattle.printed.specs.Commands.{Bytes}
 
@@ -164,12 +166,12 @@ module _ (b : ℕ) (m : List ℕ) (all : Bytes (b ∷ m)) where
 
   -- ---- each command
 
-  start-back : b ≡ 0x01 → Back (start l)
+  start-back : (by : Starting) → b ≡ start-byte by → Back (start by l)
   unfolding start size encoded Fits
-  start-back e =
+  start-back by e =
       there 32 _
       (λ h z. record {
-        is = front-and 0x01 19 (image l) e h refl;
+        is = front-and (start-byte by) 19 (image l) e h refl;
         fits = (time-fits (omega arith), length-take-le 19 (drop 13 l) (simp length-drop (omega arith)));
       })
 
@@ -243,9 +245,9 @@ module _ (b : ℕ) (m : List ℕ) (all : Bytes (b ∷ m)) where
   -- ---- any command
 
   named-back : Back (decode-01-to-05 b l)
-  unfolding decode-01-to-05 decode-06-to-0b
+  unfolding decode-01-to-05 decode-06-to-0b decode-from-0c start-byte
   named-back =
-      is-byte b 0x01 _ _ start-back
+      is-byte b 0x01 _ _ (start-back Starting.Checked)
       (is-byte b 0x02 _ _ accelerations-back
       (is-byte b 0x03 _ _ temperature-back
       (is-byte b 0x04 _ _ supply-back
@@ -255,7 +257,8 @@ module _ (b : ℕ) (m : List ℕ) (all : Bytes (b ∷ m)) where
       (is-byte b 0x08 _ _ falling-back
       (is-byte b 0x09 _ _ pins-back
       (is-byte b 0x0a _ _ stored-image-back
-      (is-byte b 0x0b _ _ view-back bad-back))))))))))
+      (is-byte b 0x0b _ _ view-back
+      (is-byte b 0x0c _ _ (start-back Starting.Stored) bad-back)))))))))))
 
   pub written-back : Back (decoded l)
   unfolding decoded

@@ -42,7 +42,7 @@ pub enum Verdict {
 
 /// Sample phases that a command lets pass.
 fn phases(model: &Model, command: &Command) -> u128 {
-    let still = matches!(command, Command::Start { .. } | Command::StoredImage { .. });
+    let still = command.starts() || matches!(command, Command::StoredImage { .. });
     let at = command.time().filter(|_| !still);
     let passes = model.refusal(command).is_none() && model.next_sample().is_some();
     let from = model.last().raw();

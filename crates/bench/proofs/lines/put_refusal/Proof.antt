@@ -78,6 +78,15 @@ slice-aggregate-put-word-8 c = search needs
 put-word-requires-8 : tie.Need-put-word-requires-8
 put-word-requires-8 c κs = search needs
 
+enum-told-9 : tie.Need-enum-told-9
+enum-told-9 c = search needs
+
+slice-aggregate-put-word-9 : tie.Need-slice-aggregate-put-word-9
+slice-aggregate-put-word-9 c = search needs
+
+put-word-requires-9 : tie.Need-put-word-requires-9
+put-word-requires-9 c κs = search needs
+
 returns : tie.Need-returns
 unfolding word refusal-number
 returns c = (says (c .put-word .ensures) (rw (c .before .before .before .enum-told .given .1)), omega (arith, c .put-word .ensures .next))
@@ -110,6 +119,10 @@ returns-8 : tie.Need-returns-8
 unfolding word refusal-number
 returns-8 c = (says (c .put-word8 .ensures) (rw (c .before .before .before .enum-told8 .given .1)), omega (arith, c .put-word8 .ensures .next))
 
+returns-9 : tie.Need-returns-9
+unfolding word refusal-number
+returns-9 c = (says (c .put-word9 .ensures) (rw (c .before .before .before .enum-told9 .given .1)), omega (arith, c .put-word9 .ensures .next))
+
 pub put-refusal-spec : {M : Type 1} → statement M
 put-refusal-spec =
     tie.close
@@ -138,6 +151,9 @@ put-refusal-spec =
     enum-told-8
     slice-aggregate-put-word-8
     put-word-requires-8
+    enum-told-9
+    slice-aggregate-put-word-9
+    put-word-requires-9
     returns
     returns-2
     returns-3
@@ -145,4 +161,5 @@ put-refusal-spec =
     returns-5
     returns-6
     returns-7
-    returns-8)
+    returns-8
+    returns-9)

@@ -13,7 +13,7 @@ enum-known-c : tie.Need-enum-known-c
 enum-known-c c = search needs
 
 start-requires : tie.Need-start-requires
-start-requires c κs = let h : 32 ≤ length (c .before .before .before .before .args .input .now) - c .before .before .before .before .args .at = rw (← length-drop (c .before .before .before .before .args .at) (c .before .before .before .before .args .input .now)) (image-there _ _ (sym (c .before .before .before .before .pre) ∙ c .before .c .given .1)) in omega arith
+start-requires c κs = let h : 32 ≤ length (c .before .before .before .before .args .input .now) - c .before .before .before .before .args .at = rw (← length-drop (c .before .before .before .before .args .at) (c .before .before .before .before .args .input .now)) (image-there _ _ _ (sym (c .before .before .before .before .pre) ∙ c .before .c .given .1)) in omega arith
 
 enum-known-c-2 : tie.Need-enum-known-c-2
 enum-known-c-2 c = search needs

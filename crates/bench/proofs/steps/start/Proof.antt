@@ -25,17 +25,17 @@ add-from c = search needs
 add-to : tie.Need-add-to
 add-to c = search needs
 
-sub-start : tie.Need-sub-start
-sub-start c = search needs
+sub-begun : tie.Need-sub-begun
+sub-begun c = search needs
 
-part-start-start : tie.Need-part-start-start
-part-start-start c = search needs
+part-begun-start : tie.Need-part-begun-start
+part-begun-start c = search needs
 
-part-start-end : tie.Need-part-start-end
-part-start-end c = search needs
+part-begun-end : tie.Need-part-begun-end
+part-begun-end c = search needs
 
-start-requires : tie.Need-start-requires
-start-requires c κs = search needs
+begun-requires : tie.Need-begun-requires
+begun-requires c κs = search needs
 
 is-accepted-requires : tie.Need-is-accepted-requires
 is-accepted-requires c κs = search needs
@@ -46,10 +46,10 @@ silent-requires c κs = search needs
 returns : tie.Need-returns
 returns c =
     let a = c .before .before .before .before .before .before .before .args in
-    let e = c .before .before .before .before .start .ensures in
+    let e = c .before .before .before .before .begun .ensures in
     c .silent .ensures
-    ∙ start-accepted (a .sensor) _ (a .when) _ (number (c .before .before .before .before .start .result .outcome)) (e .0) (e .1) (sym (c .before .before .is-accepted .ensures) ∙ c .before .if1 .taken)
-    ∙ ap (λ (i : List ℕ). commanded (a .sensor) (Command.Start (a .when)) i) (image-is (a .at) (a .input .now))
+    ∙ start-accepted (a .running) _ (a .by) (a .when) _ (number (c .before .before .before .before .begun .result .outcome)) (e .0) (e .1) (sym (c .before .before .is-accepted .ensures) ∙ c .before .if1 .taken)
+    ∙ ap (λ (i : List ℕ). commanded (a .running) (Command.Start (a .by) (a .when)) i) (image-is (a .at) (a .input .now))
 
 silent-requires-2 : tie.Need-silent-requires-2
 silent-requires-2 c κs = search needs
@@ -57,10 +57,10 @@ silent-requires-2 c κs = search needs
 returns-2 : tie.Need-returns-2
 returns-2 c =
     let a = c .before .before .before .before .before .before .before .args in
-    let e = c .before .before .before .before .start .ensures in
+    let e = c .before .before .before .before .begun .ensures in
     c .silent2 .ensures
-    ∙ start-refused (a .sensor) (a .sensor) (a .when) _ (number (c .before .before .before .before .start .result .outcome)) (e .0) (sym (c .before .before .is-accepted .ensures) ∙ c .before .if1 .left)
-    ∙ ap (λ (i : List ℕ). commanded (a .sensor) (Command.Start (a .when)) i) (image-is (a .at) (a .input .now))
+    ∙ start-refused (a .running) (a .running) (a .by) (a .when) _ (number (c .before .before .before .before .begun .result .outcome)) (e .0) (sym (c .before .before .is-accepted .ensures) ∙ c .before .if1 .left)
+    ∙ ap (λ (i : List ℕ). commanded (a .running) (Command.Start (a .by) (a .when)) i) (image-is (a .at) (a .input .now))
 
 pub start-spec : {M : Type 1} → statement M
 start-spec =
@@ -68,10 +68,10 @@ start-spec =
     (tie.spec
     add-from
     add-to
-    sub-start
-    part-start-start
-    part-start-end
-    start-requires
+    sub-begun
+    part-begun-start
+    part-begun-end
+    begun-requires
     is-accepted-requires
     silent-requires
     returns
