@@ -1,12 +1,13 @@
 -- Starts by command 01's call and by command 0c's.
-use Prim.Native.Nat.{ℕ, _^_, _<_}
+use Prim.Native.Nat.{ℕ, _^_, _<_, _≤_}
 use native.Mathlib.Omega.{arith}
 use mathlib.Core.Path.{_≡_, refl, sym, ap, _∙_}
 use mathlib.Core.Bool.{false}
 use mathlib.Core.Logic.{inl, inr}
 use mathlib.Core.List.{List}
 use lib.Dec.{eqb}
-use lib.ListN.{length}
+use lib.ListN.{length, take, List·getD-append}
+use lib.Seq.{getD-take, length-take-le}
 use Rattle.time.specs.declared.Time.{Time}
 use Rattle.time.specs.Time.{time}
 use Rattle.calls.specs.declared.types.Starting.{Starting}
@@ -15,9 +16,16 @@ use Rattle.calls.specs.declared.types.Bytes.the-variants as Bytes
 use Rattle.calls.specs.Table.{wrong-length, late, reserved, turned-down, first-found, start-refusal}
 use Rattle.calls.specs.Theorems.Exactly.{Reserved, TurnedDown}
 use Rattle.calls.specs.Theorems.Left.{accepted-is, start-clear}
-use Rattle.sensor.specs.Image.{stock}
+use Rattle.registers.specs.Map.{at, measurement}
+use Rattle.sensor.specs.Image.{from-nonvolatile, stock}
 use Rattle.bma150.specs.Called.{measurement-of, start-number, after-start}
 use Rattle.bma150.specs.Theorems.Refused.{start-refused-exactly-if}
+
+-- the byte that is asked is the one that register 14 has after the start
+pub measurement-loaded : (now : Time) (image : List ℕ) → length image ≡ 19 → measurement-of image ≡ at (from-nonvolatile now image .registers) measurement
+measurement-loaded now image size =
+    let whole : length (take 19 image) ≡ 19 = length-take-le 19 image (let e : 19 ≤ length image = omega (arith, size) in e) in
+    sym (List·getD-append (take 19 image) _ 0 9 (omega (arith, whole)) ∙ getD-take 19 image 9 0 (omega arith))
 
 -- 19 bytes, for 01's call without a reserved code, and a time below 2^32 s: accepted
 pub start-accepted : (by : Starting) (now : Time) (image : List ℕ) → length image ≡ 19 → (TurnedDown by (measurement-of image) → ⊥) → now .0 < 2 ^ 32 → start-number by now image ≡ 0
