@@ -5,6 +5,7 @@ mod both;
 mod buses;
 mod corners;
 mod marks;
+mod means;
 mod moments;
 mod power;
 pub mod profiles;

@@ -50,8 +50,19 @@ impl Filter {
     pub fn select(&mut self, bandwidth: u8) {
         self.0.select(bandwidth);
     }
-    pub fn push(&mut self, axis: usize, code: i16) -> i16 {
-        self.0.push(axis, code)
+    /// The answer, and whether the window was full.
+    pub fn push(&mut self, axis: usize, code: i16) -> (i16, bool) {
+        let answer = self.0.push(axis, code);
+        (answer, self.full(axis))
+    }
+    #[cfg(feature = "marks")]
+    fn full(&self, axis: usize) -> bool {
+        self.0.full[axis]
+    }
+    /// The text as it stands does not say.
+    #[cfg(not(feature = "marks"))]
+    fn full(&self, _: usize) -> bool {
+        false
     }
 }
 

@@ -40,10 +40,15 @@ fn answer(out: &mut Vec<u8>, answer: &Answer) {
             out.push(b' ');
             image.iter().for_each(|&v| byte(out, v));
         }
-        Answer::Viewed(None) => out.extend_from_slice(b" --"),
-        Answer::Viewed(Some(value)) => {
+        Answer::Viewed(None, _) => out.extend_from_slice(b" --"),
+        Answer::Viewed(Some(value), mark) => {
             out.push(b' ');
             byte(out, *value);
+            match mark {
+                Some(true) => out.extend_from_slice(b" m"),
+                Some(false) => out.extend_from_slice(b" s"),
+                None => {}
+            }
         }
     }
 }

@@ -59,7 +59,8 @@ pub enum Answer {
     Plain,
     Report(Report),
     Image([u8; IMAGE]),
-    Viewed(Option<u8>),
+    /// The byte, and of an acceleration whether its value is a mean.
+    Viewed(Option<u8>, Option<bool>),
 }
 
 pub type Reply = Result<Answer, Refusal>;
@@ -185,6 +186,19 @@ impl Model {
         self.sensor.peek(address)
     }
 
+    /// Whether the value of an acceleration's register is a mean.
+    #[cfg(feature = "marks")]
+    pub fn mark(&self, address: u8) -> Option<bool> {
+        (0x02..=0x07)
+            .contains(&address)
+            .then(|| self.sensor.mean(usize::from(address - 0x02) / 2))
+    }
+    /// The text as it stands does not say.
+    #[cfg(not(feature = "marks"))]
+    pub fn mark(&self, _: u8) -> Option<bool> {
+        None
+    }
+
     /// The first refusal of the table that applies, in the order
     /// 9, 3, 4, 2 or 8, 5, 6. Numbers 7 and 1 are met before a command exists.
     pub fn refusal(&self, command: &Command) -> Option<Refusal> {
@@ -245,7 +259,9 @@ impl Model {
             Command::Temperature(value) => self.sensor.set_temperature(value),
             Command::Select(level) => self.sensor.set_selected(level),
             Command::View(address) => {
-                return Ok(Ok(Answer::Viewed(self.sensor.peek(address))));
+                let byte = self.sensor.peek(address);
+                let mark = byte.and_then(|_| self.mark(address));
+                return Ok(Ok(Answer::Viewed(byte, mark)));
             }
             Command::StoredImage { at } => {
                 return Ok(Ok(Answer::Image(self.sensor.nonvolatile(at))));

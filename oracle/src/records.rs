@@ -160,7 +160,10 @@ impl Leaves {
         match record.kind {
             0x20 => self.filter = Filter::new(record.a),
             0x21 => self.filter.select(record.a),
-            _ => answer = raised(self.filter.push(record.a.into(), code(record.x))),
+            _ => {
+                let (code, full) = self.filter.push(record.a.into(), code(record.x));
+                answer = raised(code) | u64::from(full) << 16;
+            }
         }
         (self.filter.window() as u64, answer)
     }

@@ -11,12 +11,12 @@ use Rattle.commands.specs.declared.Command.the-variants as Command
 use Rattle.calls.specs.declared.types.Starting.{Starting}
 use Rattle.calls.specs.Table as R
 use Rattle.bma150.specs.declared.host.Bma150.{Bma150}
-use Rattle.bma150.specs.Values.{drive-letter, report-values, view-value}
+use Rattle.bma150.specs.Values.{drive-letter, report-values, view-value, mark-letter}
 use Rattle.bma150.specs.Called.{Added, Called, called, start-number, after-start, interrupt, output, data-output, next-due}
 use Rattle.bench.specs.declared.types.Extra.{Extra}
 use Rattle.bench.specs.declared.types.Extra.the-variants as Extra
 use Rattle.bench.specs.declared.types.Reply.{Reply}
-use Rattle.bench.specs.Text.{space, line-feed, hex, word, bit, view-text, report-text, image-text, due-text}
+use Rattle.bench.specs.Text.{space, line-feed, hex, word, bit, view-text, mark-text, report-text, image-text, due-text}
 
 -- ---- what a command leaves and answers; `image` is a start's 19 bytes
 
@@ -39,11 +39,11 @@ step s c image = commanded s c image .sensor
 
 -- ---- the line
 
--- an accepted 0b adds the byte or `--`, 0a its 38 digits, 04 and 05 the report
+-- an accepted 0b adds the byte and an acceleration's mark, or `--`, 0a its 38 digits, 04 and 05 the report
 unfoldable pub added-text : Added → List ℕ
 added-text Added.nothing = []
 added-text (Added.report values) = report-text values
-added-text (Added.viewed value) = view-text value
+added-text (Added.viewed value mark) = view-text value ++ mark-text mark
 added-text (Added.put bytes) = image-text bytes
 
 -- interrupt; four-wire output, then data pin
@@ -67,7 +67,7 @@ no-extra = Extra.Nothing
 unfoldable pub extra-adds : Extra → (image : Image) → Added
 extra-adds Extra.Nothing image = Added.nothing
 extra-adds (Extra.Reported report) image = Added.report (report-values report)
-extra-adds (Extra.Viewed view) image = Added.viewed (view-value view)
+extra-adds (Extra.Viewed view mark) image = Added.viewed (view-value view) (mark-letter mark)
 extra-adds Extra.Image image = Added.put image
 
 -- whatever the image

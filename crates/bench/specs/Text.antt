@@ -64,6 +64,11 @@ unfoldable pub view-text : Option ℕ → List ℕ
 view-text (some b) = space ∷ hex b
 view-text none = ascii " --"
 
+-- the mark of an acceleration as one more field, or nothing
+unfoldable pub mark-text : Option ℕ → List ℕ
+mark-text (some letter) = space ∷ letter ∷ []
+mark-text none = []
+
 -- a report's values, each byte of two digits
 abbrev pub spaced : List ℕ → List ℕ
 spaced [] = []

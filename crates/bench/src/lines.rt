@@ -20,6 +20,7 @@ use bma150::host::Bma150;
 use calls::types::Outcome;
 use calls::types::Refusal;
 use deadlines::Deadline;
+use sensor::types::Mark;
 use sensor::types::View;
 use spi::types::Drive;
 use waits::types::Report;
@@ -103,6 +104,18 @@ fn put_view(out: &mut [u8; 65536], o: usize, v: View) -> usize
     }
 }
 
+fn put_mark(out: &mut [u8; 65536], o: usize, m: Mark) -> usize
+    requires { ⌜ o + 2 ≤ 65536 ⌝ }
+    ensures { λ r. ⌜ Put (now (out .entry)) o (T.mark-text (Vals.mark-letter m)) (now (out .exit)) r ⌝ }
+    ensures { λ r. ⌜ r ≤ o + 2 ⌝ }
+{
+    match m {
+        Mark::Mean => put_word(out, o, b" m"),
+        Mark::Single => put_word(out, o, b" s"),
+        Mark::Nothing => o,
+    }
+}
+
 // An address and a byte.
 fn put_stored(out: &mut [u8; 65536], o: usize, a: u8, v: u8) -> usize
     requires { ⌜ o + 6 ≤ 65536 ⌝ }
@@ -141,7 +154,10 @@ fn put_extra(out: &mut [u8; 65536], o: usize, x: Extra, image: &[u8; 19]) -> usi
     match x {
         Extra::Nothing => o,
         Extra::Reported(w) => put_report(out, o, w),
-        Extra::Viewed(v) => put_view(out, o, v),
+        Extra::Viewed(v, m) => {
+            let p = put_view(out, o, v);
+            put_mark(out, p, m)
+        }
         Extra::Image => {
             let p = put(out, o, b' ');
             put_hexes(out, p, image)

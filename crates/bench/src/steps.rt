@@ -161,10 +161,12 @@ fn view(sensor: Bma150, address: u8) -> Reply
     ensures { λ r. ⌜ L.replied r ≡ K.called sensor (Call.View address) ⌝ }
 {
     let shown = sensor.view(address);
+    let view = shown.view;
+    let mark = shown.mark;
     Reply {
         sensor: sensor,
         outcome: Outcome::Accepted,
-        extra: Extra::Viewed(shown),
+        extra: Extra::Viewed(view, mark),
         image: [0; 19],
     }
 }

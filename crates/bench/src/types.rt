@@ -1,6 +1,7 @@
 // What a command leaves and answers, before it is written.
 use bma150::host::Bma150;
 use calls::types::Outcome;
+use sensor::types::Mark;
 use sensor::types::View;
 use waits::types::Report;
 
@@ -8,7 +9,7 @@ use waits::types::Report;
 pub enum Extra {
     Nothing,
     Reported(Report),
-    Viewed(View),
+    Viewed(View, Mark),
     Image,
 }
 

@@ -20,7 +20,8 @@ use Rattle.sensor.specs.declared.types.Sensor.{Sensor}
 use Rattle.sensor.specs.Record.{with-lines}
 use Rattle.sensor.specs.Image.{nonvolatile, from-nonvolatile, stock}
 use Rattle.sensor.specs.Mode as Mode
-use Rattle.sensor.specs.RegisterReads.{peek}
+use Rattle.sensor.specs.declared.types.Viewed.{Viewed}
+use Rattle.sensor.specs.RegisterReads as Reads
 use Rattle.sensor.specs.Select.{set-selected}
 use Rattle.samples.specs.Samples.{interaction-deadline, sync-local-until}
 use Rattle.serial.specs.Outputs as Outputs
@@ -31,7 +32,7 @@ use Rattle.waits.specs.declared.types.Served.{Served}
 use Rattle.waits.specs.Supply.{without-report, set-supply, set-input, set-temperature}
 use Rattle.waits.specs.Due.{at-deadline}
 use Rattle.bma150.specs.declared.host.Bma150.{Bma150}
-use Rattle.bma150.specs.Values.{report-values, view-value}
+use Rattle.bma150.specs.Values.{report-values, view-value, mark-letter}
 
 -- ---- a start by command 01's call or by command 0c's: its number, and the sensor that it hands out
 
@@ -50,30 +51,30 @@ started now image = record { sensor = from-nonvolatile now image; last = now }
 unfoldable pub after-start : Starting → (now : Time) (image : Image) → Bma150
 after-start by now image = unless-refused (start-number by now image) (started (time 0) stock) (started now image)
 
--- ---- what an accepted call answers beside its number: a report, a viewed byte or its absence, the bytes put in the buffer
+-- ---- what an accepted call answers beside its number: a report, a viewed byte or its absence with its mark or none, the bytes put in the buffer
 
 pub data Added : Type 0 where
   nothing : Added
   report : List ℕ → Added
-  viewed : Option ℕ → Added
+  viewed : (value mark : Option ℕ) → Added
   put : List ℕ → Added
 
 -- the report of an answer
 unfoldable pub reported : Added → List ℕ
 reported Added.nothing = []
 reported (Added.report values) = values
-reported (Added.viewed value) = []
+reported (Added.viewed value mark) = []
 reported (Added.put bytes) = []
 
 -- the answer of a view
-abbrev pub of-view : (value : Option ℕ) → Added
-of-view value = Added.viewed value
+abbrev pub of-view : Viewed → Added
+of-view v = Added.viewed (view-value (v .view)) (mark-letter (v .mark))
 
 -- the lent buffer after the call
 unfoldable pub put-in : Added → (buffer : List ℕ) → List ℕ
 put-in Added.nothing buffer = buffer
 put-in (Added.report values) buffer = buffer
-put-in (Added.viewed value) buffer = buffer
+put-in (Added.viewed value mark) buffer = buffer
 put-in (Added.put bytes) buffer = bytes
 
 -- ---- an accepted call
@@ -112,7 +113,7 @@ unfoldable pub adds : Bma150 → Call → Added
 adds s (Call.At now t) = timed-adds t (served s now t .report)
 adds s (Call.Temperature x) = Added.nothing
 adds s (Call.Select on) = Added.nothing
-adds s (Call.View address) = Added.viewed (view-value (peek (s .sensor) address))
+adds s (Call.View address) = of-view (Reads.viewed (s .sensor) address)
 adds s (Call.StoredImage now n) = Added.put (nonvolatile (s .sensor) now)
 
 -- ---- any call: a refused one leaves the sensor as it came, and answers only its number

@@ -6,6 +6,8 @@ use Rattle.spi.specs.declared.types.Drive.{Drive}
 use Rattle.spi.specs.declared.types.Drive.the-variants as Drive
 use Rattle.sensor.specs.declared.types.View.{View}
 use Rattle.sensor.specs.declared.types.View.the-variants as View
+use Rattle.sensor.specs.declared.types.Mark.{Mark}
+use Rattle.sensor.specs.declared.types.Mark.the-variants as Mark
 use Rattle.waits.specs.declared.types.Report.{Report}
 use Rattle.waits.specs.declared.types.Report.the-variants as Report
 
@@ -25,3 +27,9 @@ report-values (Report.Cut address byte) = 0x58 ∷ address ∷ byte ∷ []
 unfoldable pub view-value : View → Option ℕ
 view-value (View.Byte b) = some b
 view-value View.Withheld = none
+
+-- m (mean), s (single) or no mark
+unfoldable pub mark-letter : Mark → Option ℕ
+mark-letter Mark.Mean = some 0x6d
+mark-letter Mark.Single = some 0x73
+mark-letter Mark.Nothing = none

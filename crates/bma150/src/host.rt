@@ -24,7 +24,7 @@ use samples::interaction_deadline;
 use samples::sync_local_until;
 use sensor::image::stock;
 use sensor::types::Sensor;
-use sensor::types::View;
+use sensor::types::Viewed;
 use serial::i2c_pins::i2c_pins_at;
 use serial::outputs::data_output;
 use serial::outputs::output;
@@ -250,12 +250,12 @@ impl Bma150 {
         replied(self.timed(now, Timed::Pins(before, after)))
     }
 
-    // The byte that a register shows.
-    pub fn view(self, address: u8) -> View
-        ensures { λ r. ⌜ C.of-view (Vals.view-value r) ≡ C.called self (Call.View address) .adds ⌝ }
+    // The byte that a register shows, and whether it is of a mean.
+    pub fn view(self, address: u8) -> Viewed
+        ensures { λ r. ⌜ C.of-view r ≡ C.called self (Call.View address) .adds ⌝ }
     {
         let s = self.sensor;
-        s.peek(address)
+        s.viewed(address)
     }
 
     // The stored bytes at a moment, into a lent buffer; the last accepted time stays.

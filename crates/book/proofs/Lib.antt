@@ -6,5 +6,7 @@ pub mod Steps
 pub mod Lists
 pub mod Closed
 pub mod Follows
+pub mod Walk
 pub mod Onward
+pub mod Marks
 pub mod OnwardExamples

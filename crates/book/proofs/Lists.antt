@@ -210,7 +210,7 @@ module _ (b : Start) (cs : List Call) (now : Time) (rail : ℕ) (h : Returns b c
 unfoldable pub bytes-of : Added → List ℕ
 bytes-of Added.nothing = []
 bytes-of (Added.report values) = []
-bytes-of (Added.viewed value) = []
+bytes-of (Added.viewed value mark) = []
 bytes-of (Added.put bytes) = bytes
 
 same-half : (b d : Start) (cs ds : List Call) (now : Time) (rail power : ℕ) → Returns b cs now rail → Returns d ds now power

@@ -1,6 +1,7 @@
 -- No axis of the stage runs ahead, over every list: by induction over the calls.
 use Prim.Native.Nat.{_≤_}
 use native.Mathlib.Nat.{le-trans}
+use native.Mathlib.Omega.{arith}
 use mathlib.Core.Path.{_≡_, refl, sym, ap, subst, _∙_}
 use mathlib.Core.Bool.{Bool, true, false, cond}
 use mathlib.Core.List.{List, [], _∷_}
@@ -18,33 +19,24 @@ use Rattle.calls.specs.declared.types.Dated.the-variants as Dated
 use Rattle.calls.specs.Facts.{timed-facts, facts}
 use Rattle.calls.specs.Table as T
 use Rattle.calls.specs.Theorems.Left.{clear, accepted-is, refused-is}
-use Rattle.sensor.specs.declared.types.Sensor.{Sensor}
 use Rattle.sensor.specs.Image.{stock}
-use Rattle.samples.specs.Samples.{interaction-deadline, sync-local-until}
+use Rattle.samples.specs.Samples.{interaction-deadline}
 use Rattle.bma150.specs.declared.host.Bma150.{Bma150}
 use Rattle.bma150.specs.Called as Called
-use Rattle.bma150.specs.Called.{effect, leaves, after-start, start-number}
+use Rattle.bma150.specs.Called.{leaves, after-start, start-number}
 use Rattle.effects.specs.Onward as E
 use Rattle.effects.specs.Onward.{Upto}
 use Rattle.effects.specs.Theorems.Stage.{rest-upto}
-use Rattle.effects.specs.Theorems.Onward.{then, sync-onward, input-onward, supply-onward, due-onward, rising-onward, falling-onward, pins-onward, temperature-onward, select-onward}
+use Rattle.effects.specs.Theorems.Onward as Steps
 use Rattle.book.specs.Lists.{accepts, step, Start, started, after}
 use Rattle.book.specs.Onward.{NotAhead, Onward}
+use Rattle.book.proofs.Walk.{leaves-meets}
 
 -- no axis is after the last accepted time
 abbrev Stands : Bma150 → Type 0
 Stands s = Upto (s .last) (s .sensor .sampling .analog)
 
 -- ---- one call
-
-timed-onward : (s : Sensor) (now : Time) (t : Timed) → E.Onward now s (effect s now t .sensor)
-unfolding effect
-timed-onward s now (Timed.Accelerations x y z) = input-onward now s x y z
-timed-onward s now (Timed.Supply rail) = supply-onward now s rail
-timed-onward s now Timed.Due = due-onward now s
-timed-onward s now (Timed.Rising mosi) = rising-onward now s mosi
-timed-onward s now Timed.Falling = falling-onward now s
-timed-onward s now (Timed.Pins before after) = then (pins-onward now s before after) (record { onward = λ h. h })
 
 dated : (now : Time) (t : Timed) → timed-facts now t .time ≡ Dated.At now
 unfolding timed-facts
@@ -62,18 +54,20 @@ not-back s now t p =
     let q = clear (s .last) (interaction-deadline (s .sensor)) (s .sensor .kept .lines) (Call.At now t) p in
     ltb-false (ticks now) (ticks (s .last)) (sym (ap (λ (d : Dated). T.goes-back (s .last) d) (dated now t)) ∙ q .1 .1 .0)
 
+-- the last accepted time never goes back
+not-before : (s : Bma150) (c : Call) → accepts s c ≡ true → ticks (s .last) ≤ ticks (leaves s c .last)
+unfolding leaves
+not-before s (Call.At now t) p = not-back s now t p
+not-before s (Call.Temperature x) p = omega arith
+not-before s (Call.Select on) p = omega arith
+not-before s (Call.View address) p = omega arith
+not-before s (Call.StoredImage now length) p = omega arith
+
 later-upto : (a b : Time) (g : Analog) → ticks a ≤ ticks b → Upto a g → Upto b g
 later-upto a b g p h = record { x = le-trans (h .x) p; y = le-trans (h .y) p; z = le-trans (h .z) p }
 
 leaves-stands : (s : Bma150) (c : Call) → accepts s c ≡ true → Stands s → Stands (leaves s c)
-unfolding leaves
-leaves-stands s (Call.At now t) p h =
-    let u = sync-local-until (s .sensor) now false in
-    timed-onward u now t .onward (sync-onward now (s .sensor) false .onward (later-upto (s .last) now (s .sensor .sampling .analog) (not-back s now t p) h))
-leaves-stands s (Call.Temperature x) p h = temperature-onward (s .last) (s .sensor) x .onward h
-leaves-stands s (Call.Select on) p h = select-onward (s .last) (s .sensor) on .onward h
-leaves-stands s (Call.View address) p h = h
-leaves-stands s (Call.StoredImage now length) p h = h
+leaves-stands s c p h = leaves-meets E.Onward Steps.onward s c .onward (later-upto (s .last) (leaves s c .last) (s .sensor .sampling .analog) (not-before s c p) h)
 
 step-stands : (s : Bma150) (c : Call) → Stands s → Stands (step s c)
 step-stands s c h = go (accepts s c) refl

@@ -5,4 +5,5 @@ pub mod Claim
 pub mod Closed
 pub mod Follows
 pub mod Onward
+pub mod Marks
 pub mod Theorems

@@ -51,7 +51,7 @@ accepts s c = eqb (number s c) 0
 abbrev pub step : Bma150 → Call → Bma150
 step s c = called s c .sensor
 
--- 01: answers compared; the report, the viewed byte and the bytes put in the buffer are what the call adds; the pins and next due are those after the call
+-- 01: answers compared; the report, the viewed byte with its mark and the bytes put in the buffer are what the call adds; the pins and next due are those after the call
 pub record Answer : Type 0 where
   pub number : ℕ
   pub interrupt : Bool

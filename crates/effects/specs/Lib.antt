@@ -1,3 +1,5 @@
 pub mod Core
 pub mod Onward
+pub mod Walk
+pub mod Marks
 pub mod Theorems

@@ -1,6 +1,11 @@
 pub mod Keeps
 pub mod Driver
 pub mod Stage
+pub mod Walk
 pub mod Onward
+pub mod Phases
 pub mod Moves
 pub mod Reserved
+pub mod Sizes
+pub mod Marks
+pub mod Course

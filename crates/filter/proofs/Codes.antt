@@ -1,5 +1,6 @@
 -- What a push, a selection and a new filter do to each axis's list of last codes.
 use mathlib.Core.Path.{_≡_, refl, _∙_}
+use mathlib.Core.Bool.{true, false}
 use mathlib.Core.List.{List, _∷_}
 use Prim.Native.Nat.{ℕ, zero, suc, _+_, _-_, _*_, _%_, _≤_, _<_}
 use native.Mathlib.Omega.{arith}
@@ -9,7 +10,7 @@ use lib.Seq.{getD-set-same, getD-set-other}
 use borrow.Author.Tests.{lt-ltb, le-ltb}
 use Rattle.filter.specs.declared.Filter.{Filter}
 use Rattle.filter.specs.Mean.{tabulate, ring, mean}
-use Rattle.filter.specs.Filter.{window, made, selected, place, count-with, pushed, last-codes, answered}
+use Rattle.filter.specs.Filter.{window, made, selected, place, count-with, pushed, last-codes, full, answered}
 use Rattle.filter.proofs.Sums.{take-tabulate}
 
 -- ---- rings
@@ -82,6 +83,15 @@ module _ (f : Filter) (axis : ℕ) (code : ℤ) where
   pub answered-mean : window f ≤ count-with f axis → answered f axis code ≡ mean (window f) (last-codes (pushed f axis code) axis)
   unfolding answered
   answered-mean p = rw (le-ltb (count-with f axis) (window f) p)
+
+  -- whether the window is full goes with that
+  pub not-full : count-with f axis < window f → full f axis ≡ false
+  unfolding full
+  not-full p = rw (lt-ltb (count-with f axis) (window f) p)
+
+  pub is-full : window f ≤ count-with f axis → full f axis ≡ true
+  unfolding full
+  is-full p = rw (le-ltb (count-with f axis) (window f) p)
 
   -- the mean as the code makes it
   pub answered-ring : length (f .next) ≡ 3

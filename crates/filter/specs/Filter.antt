@@ -1,5 +1,6 @@
 -- The filter of three axes on the declared record, as `new`, `window`, `select` and `push` leave it.
 use Prim.Native.Nat.{ℕ, _+_, _-_, _*_, _%_, _^_, min}
+use mathlib.Core.Bool.{Bool, not}
 use mathlib.Core.List.{List}
 use lib.Dec.{ltb}
 use lib.ListN.{getD, set, replicate}
@@ -65,6 +66,10 @@ pushed f axis code = record {
 -- the last 64 codes of an axis, newest first: the newest stands one place before the next
 abbrev pub last-codes : Filter → (axis : ℕ) → List ℤ
 last-codes f axis = ring (f .history) (axis % 3 * 64) ((place f axis + 63) % 64)
+
+-- whether the window of an axis is full with one more code: then the answer is the mean
+unfoldable pub full : Filter → (axis : ℕ) → Bool
+full f axis = not (ltb (count-with f axis) (window f))
 
 -- the answer to a pushed code: itself while its axis holds fewer codes than the window, itself included, and else the mean (01)
 unfoldable pub answered : Filter → (axis : ℕ) (code : ℤ) → ℤ

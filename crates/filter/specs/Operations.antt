@@ -1,5 +1,6 @@
 -- What 01 says of a filter's answers after any operations on it; `answers-as-said` of proofs/Answers joins it to the filter.
 use Prim.Native.Nat.{ℕ, _%_}
+use mathlib.Core.Bool.{Bool, not}
 use mathlib.Core.List.{List, [], _∷_}
 use lib.Dec.{ltb, eqb}
 use lib.ListN.{length}
@@ -37,3 +38,7 @@ bandwidth-of bandwidth (select b ∷ earlier) = b
 -- the answer to a code, given those before it: itself while fewer than the window with it, else the floor of the mean of the last window codes (01)
 unfoldable pub answer : (window : ℕ) (code : ℤ) (before : List ℤ) → ℤ
 answer window code before = if ltb (length (code ∷ before)) window then code else mean window (code ∷ before)
+
+-- whether that answer is the mean of a full window: not fewer codes than the window with this one
+unfoldable pub is-mean : (window : ℕ) (code : ℤ) (before : List ℤ) → Bool
+is-mean window code before = not (ltb (length (code ∷ before)) window)

@@ -5,7 +5,7 @@ ghost use lib.IntN.{_+ℤ_};
 ghost use lib.Signed.{mag};
 ghost use lib.ListN.{take, drop};
 ghost use Rattle.filter.specs.Mean.{ring, sumZ, mean};
-ghost use Rattle.filter.specs.Filter.{window-of, window, made, selected, places, joined, pushed, answered};
+ghost use Rattle.filter.specs.Filter.{window-of, window, made, selected, places, joined, pushed, full, answered};
 
 // `history` holds the last 64 codes of each axis as a ring, axis * 64 and its place; `next` is the place that an axis
 // writes next and `count` how many codes it holds. The window is 2^shift.
@@ -16,9 +16,11 @@ pub struct Filter {
     shift: u8,
 }
 
+// `full` says that the answer is the mean of a full window, else it is the code itself.
 pub struct Pushed {
     pub filter: Filter,
     pub code: i16,
+    pub full: bool,
 }
 
 // A filter without its history, which is lent beside it.
@@ -31,6 +33,7 @@ pub struct RingState {
 pub struct RingPushed {
     pub places: RingState,
     pub code: i16,
+    pub full: bool,
 }
 
 // The lesser of two numbers.
@@ -148,6 +151,7 @@ impl Filter {
     pub fn push(self, axis: u8, code: i16) -> Pushed
         ensures { λ r. ⌜ r .filter ≡ pushed self axis code ⌝ }
         ensures { λ r. ⌜ r .code ≡ answered self axis code ⌝ }
+        ensures { λ r. ⌜ r .full ≡ full self axis ⌝ }
     {
         let mut history = self.history;
         let p = self.places();
@@ -156,6 +160,7 @@ impl Filter {
         Pushed {
             filter: q.joined(history),
             code: r.code,
+            full: r.full,
         }
     }
 }
@@ -186,6 +191,7 @@ impl RingState {
     pub fn push(self, history: &mut [i16; 192], axis: u8, code: i16) -> RingPushed
         ensures { λ r. ⌜ joined (now (history .exit)) (r .places) ≡ pushed (joined (now (history .entry)) self) axis code ⌝ }
         ensures { λ r. ⌜ r .code ≡ answered (joined (now (history .entry)) self) axis code ⌝ }
+        ensures { λ r. ⌜ r .full ≡ full (joined (now (history .entry)) self) axis ⌝ }
     {
         let a = (axis % 3) as usize;
         let place = (self.next[a] % 64) as usize;
@@ -198,12 +204,14 @@ impl RingState {
             return RingPushed {
                 places: p,
                 code: code,
+                full: false,
             };
         }
         let mean = mean_of(history, a * 64, place, least6(self.shift));
         RingPushed {
             places: p,
             code: mean,
+            full: true,
         }
     }
 }

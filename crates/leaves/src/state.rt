@@ -51,6 +51,14 @@ fn shown(i: Interrupts, registers: [u8; 62]) -> Answer {
     )
 }
 
+// An answer of 16 bits, and above it whether the window was full.
+fn with_full(code: u64, full: bool) -> u64 {
+    if full {
+        return code | 0x10000;
+    }
+    code
+}
+
 impl Leaves {
     pub(crate) fn new() -> Leaves {
         Leaves {
@@ -79,7 +87,7 @@ impl Leaves {
         }
         let p = f.push(r.a, signed16(r.x));
         let g = p.filter;
-        self.with_filter(g, raised(p.code))
+        self.with_filter(g, with_full(raised(p.code), p.full))
     }
 
     fn interrupted(self, r: Record) -> Leaves {

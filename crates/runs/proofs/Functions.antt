@@ -32,14 +32,14 @@ use Rattle.calls.specs.Facts.{bringing, facts}
 use Rattle.calls.specs.Table as T
 use Rattle.calls.specs.Theorems.Left.{temperature-accepted, select-accepted, view-accepted}
 use Rattle.sensor.specs.declared.types.View.{View}
-use Rattle.sensor.specs.RegisterReads.{peek}
+use Rattle.sensor.specs.RegisterReads.{viewed}
 use Rattle.samples.specs.Samples.{interaction-deadline}
 use Rattle.waits.specs.declared.types.Report.{Report}
 use Rattle.waits.specs.declared.types.Report.the-variants as Report
 use Rattle.bma150.specs.declared.types.Replied.{Replied}
 use Rattle.bma150.specs.declared.types.Reported.{Reported}
 use Rattle.bma150.specs.declared.host.Bma150.{Bma150}
-use Rattle.bma150.specs.Values.{report-values, view-value}
+use Rattle.bma150.specs.Values.{report-values}
 use Rattle.bma150.specs.Called.{Added, reported, of-view, put-in, timed-adds, served, leaves, adds, number, called, measurement-of, start-number, after-start, interrupt, output, data-output}
 use Rattle.bma150.specs.Theorems.Values.{drive-letter-injective}
 use Rattle.bma150.specs.Theorems.Added.{reported-is, silent-is, buffer-is, image-leaves, view-leaves, view-adds}
@@ -185,8 +185,8 @@ replies s (Call.Select on) =
     let t = step s (Call.Select on) in
     (t, accepted Added.nothing (seen t), Serves.select t (seen t) refl (observed t))
 replies s (Call.View address) =
-    let v = peek (s .sensor) address in
-    (s, accepted (of-view (view-value v)) (seen s), Serves.view v (seen s) (view-adds s address) (observed s))
+    let v = viewed (s .sensor) address in
+    (s, accepted (of-view v) (seen s), Serves.view v (seen s) (view-adds s address) (observed s))
 replies s (Call.StoredImage now n) =
     let u = outcome-of (s .last) (interaction-deadline (s .sensor)) (s .sensor .kept .lines) (Call.StoredImage now n) in
     let zeros : List ℕ = replicate n 0 in

@@ -28,14 +28,13 @@ use Rattle.calls.specs.declared.types.Call.the-variants as Call
 use Rattle.calls.specs.declared.types.Starting.the-variants as Starting
 use Rattle.calls.specs.declared.types.Outcome.{Outcome}
 use Rattle.calls.specs.Table as T
-use Rattle.sensor.specs.declared.types.View.{View}
+use Rattle.sensor.specs.declared.types.Viewed.{Viewed}
 use Rattle.waits.specs.declared.types.Report.{Report}
 use Rattle.waits.specs.declared.types.Report.the-variants as Report
 use Rattle.bma150.specs.declared.types.Replied.{Replied}
 use Rattle.bma150.specs.declared.types.Reported.{Reported}
 use Rattle.bma150.specs.declared.types.Answered.{Answered}
 use Rattle.bma150.specs.declared.host.Bma150.{Bma150}
-use Rattle.bma150.specs.Values.{view-value}
 use Rattle.bma150.specs.Called.{Added, of-view, timed-adds, served, adds, number, interrupt, output, data-output}
 use Rattle.bma150.specs.Lent.{DueLent, PinsLent}
 use Rattle.book.specs.Lists.{Answer, Start}
@@ -153,8 +152,8 @@ pub data Serves : Bma150 → Call → Bma150 → Answer → Type 0 where
       → Serves s (Call.At now (Timed.Pins before after)) (r .sensor) (replied (r .outcome) (Timed.Pins before after) Report.Nothing o)
   pins-lent : {s : Bma150} {now : Time} {before after : Levels} (t : Bma150) (r : Outcome) (o : Pins) → PinsLent s now before after t r → Observed t o
       → Serves s (Call.At now (Timed.Pins before after)) t (replied r (Timed.Pins before after) Report.Nothing o)
-  view : {s : Bma150} {address : ℕ} (r : View) (o : Pins) → view-reads.Post tt (s, (address, tt)) r (s, (address, tt)) → Observed s o
-      → Serves s (Call.View address) s (accepted (of-view (view-value r)) o)
+  view : {s : Bma150} {address : ℕ} (r : Viewed) (o : Pins) → view-reads.Post tt (s, (address, tt)) r (s, (address, tt)) → Observed s o
+      → Serves s (Call.View address) s (accepted (of-view r) o)
   stored-image : {s : Bma150} {now : Time} {n : ℕ} (κs : Lfts 1) (lent left : RefT (List ℕ)) (r : Outcome) (o : Pins) → length (lent .now) ≡ n
       → stored-image-reads.Post κs (s, (now, (lent, tt))) r (s, (now, (left, tt))) → Observed s o
       → Serves s (Call.StoredImage now n) s (handed r (left .now) o)

@@ -13,7 +13,7 @@ use Rattle.analog.specs.declared.types.Axis.{Axis}
 use Rattle.analog.specs.declared.types.Analog.{Analog}
 use Rattle.analog.specs.Axis as A
 use Rattle.filter.specs.declared.Filter.{Filter}
-use Rattle.filter.specs.Filter.{window, pushed, answered}
+use Rattle.filter.specs.Filter.{window, pushed, full, answered}
 use Rattle.registers.specs.Map.{at, acc-lsb, acc-msb, temp, status, control, measurement, operation, offset-lsb, offset-msb, new-data, self-test-1, range, new-data-INT, wake-up, with-st-result, without-self-test-0}
 use Rattle.registers.specs.Codes.{offset, code, code-low, code-high, temperature}
 use Rattle.control.specs.Lengths.{acquisition-cycles}
@@ -37,19 +37,19 @@ abbrev pub with-interrupts : Acquisition → Interrupts → Acquisition
 with-interrupts c i = record { registers = c .registers; sampling = c .sampling; interrupts = i }
 
 abbrev pub with-clock : Sampling → Clock → Sampling
-with-clock s k = record { filter = s .filter; filtered = s .filtered; clock = k; analog = s .analog; asleep = s .asleep; «auto_cycles» = s .«auto_cycles»; test = s .test; «data_ready» = s .«data_ready» }
+with-clock s k = record { filter = s .filter; filtered = s .filtered; means = s .means; clock = k; analog = s .analog; asleep = s .asleep; «auto_cycles» = s .«auto_cycles»; test = s .test; «data_ready» = s .«data_ready» }
 
 abbrev pub with-analog : Sampling → Analog → Sampling
-with-analog s a = record { filter = s .filter; filtered = s .filtered; clock = s .clock; analog = a; asleep = s .asleep; «auto_cycles» = s .«auto_cycles»; test = s .test; «data_ready» = s .«data_ready» }
+with-analog s a = record { filter = s .filter; filtered = s .filtered; means = s .means; clock = s .clock; analog = a; asleep = s .asleep; «auto_cycles» = s .«auto_cycles»; test = s .test; «data_ready» = s .«data_ready» }
 
 abbrev pub with-test : Sampling → Test → Sampling
-with-test s t = record { filter = s .filter; filtered = s .filtered; clock = s .clock; analog = s .analog; asleep = s .asleep; «auto_cycles» = s .«auto_cycles»; test = t; «data_ready» = s .«data_ready» }
+with-test s t = record { filter = s .filter; filtered = s .filtered; means = s .means; clock = s .clock; analog = s .analog; asleep = s .asleep; «auto_cycles» = s .«auto_cycles»; test = t; «data_ready» = s .«data_ready» }
 
-abbrev pub with-filtered : Sampling → Filter → (codes : List ℤ) → Sampling
-with-filtered s f codes = record { filter = f; filtered = codes; clock = s .clock; analog = s .analog; asleep = s .asleep; «auto_cycles» = s .«auto_cycles»; test = s .test; «data_ready» = s .«data_ready» }
+abbrev pub with-filtered : Sampling → Filter → (codes : List ℤ) (means : List Bool) → Sampling
+with-filtered s f codes means = record { filter = f; filtered = codes; means = means; clock = s .clock; analog = s .analog; asleep = s .asleep; «auto_cycles» = s .«auto_cycles»; test = s .test; «data_ready» = s .«data_ready» }
 
 abbrev pub with-scan : Sampling → (n : ℕ) (ready : Bool) → Sampling
-with-scan s n ready = record { filter = s .filter; filtered = s .filtered; clock = s .clock; analog = s .analog; asleep = s .asleep; «auto_cycles» = n; test = s .test; «data_ready» = ready }
+with-scan s n ready = record { filter = s .filter; filtered = s .filtered; means = s .means; clock = s .clock; analog = s .analog; asleep = s .asleep; «auto_cycles» = n; test = s .test; «data_ready» = ready }
 
 -- ---- acquisition
 
@@ -85,18 +85,18 @@ warmed c input = with-registers c (set (c .registers) temp (temperature (input .
 abbrev pub with-code : (registers : Registers) (axis : ℕ) (k : ℤ) → Registers
 with-code registers axis k = set (set registers (acc-lsb axis) (code-low k)) (acc-msb axis) (code-high k)
 
--- a filtered code of an axis goes to its registers and to the criteria
-abbrev pub shown : Acquisition → (axis : ℕ) → Filter → (k : ℤ) → Acquisition
-shown c axis f k =
+-- a filtered code of an axis goes to its registers, with its mark, whether it is the mean of a full window, and to the criteria
+abbrev pub shown : Acquisition → (axis : ℕ) → Filter → (k : ℤ) (mean : Bool) → Acquisition
+shown c axis f k mean =
     record {
       registers = with-code (c .registers) axis k;
-      sampling = with-filtered (c .sampling) f (set (c .sampling .filtered) axis k);
+      sampling = with-filtered (c .sampling) f (set (c .sampling .filtered) axis k) (set (c .sampling .means) axis mean);
       interrupts = I.axis (c .interrupts) axis k (with-code (c .registers) axis k);
     }
 
 -- a code of an axis is filtered
 abbrev pub filtered-code : Acquisition → (axis : ℕ) (k : ℤ) → Acquisition
-filtered-code c axis k = shown c axis (pushed (c .sampling .filter) axis k) (answered (c .sampling .filter) axis k)
+filtered-code c axis k = shown c axis (pushed (c .sampling .filter) axis k) (answered (c .sampling .filter) axis k) (full (c .sampling .filter) axis)
 
 -- the stage of an axis, advanced to the moment of the clock's last edge
 abbrev pub lagged : Acquisition → (input : Input) (axis : ℕ) → Axis

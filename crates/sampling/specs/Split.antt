@@ -15,6 +15,7 @@ abbrev pub scalars : Acquisition → AcquisitionScalars
 scalars c = record {
   places = F.places (c .sampling .filter);
   filtered = c .sampling .filtered;
+  means = c .sampling .means;
   clock = c .sampling .clock;
   analog = c .sampling .analog;
   asleep = c .sampling .asleep;
@@ -31,6 +32,7 @@ joined registers history t = record {
   sampling = record {
     filter = F.joined history (t .places);
     filtered = t .filtered;
+    means = t .means;
     clock = t .clock;
     analog = t .analog;
     asleep = t .asleep;
@@ -43,8 +45,8 @@ joined registers history t = record {
 
 -- the scalars with another stage of an axis
 abbrev pub with-axis : AcquisitionScalars → (axis : ℕ) → Axis → AcquisitionScalars
-with-axis t axis a = record { places = t .places; filtered = t .filtered; clock = t .clock; analog = A.with-axis (t .analog) axis a; asleep = t .asleep; «auto_cycles» = t .«auto_cycles»; test = t .test; «data_ready» = t .«data_ready»; interrupts = t .interrupts }
+with-axis t axis a = record { places = t .places; filtered = t .filtered; means = t .means; clock = t .clock; analog = A.with-axis (t .analog) axis a; asleep = t .asleep; «auto_cycles» = t .«auto_cycles»; test = t .test; «data_ready» = t .«data_ready»; interrupts = t .interrupts }
 
 -- the scalars with another self test
 abbrev pub with-test : AcquisitionScalars → (test : Test) → AcquisitionScalars
-with-test t test = record { places = t .places; filtered = t .filtered; clock = t .clock; analog = t .analog; asleep = t .asleep; «auto_cycles» = t .«auto_cycles»; test = test; «data_ready» = t .«data_ready»; interrupts = t .interrupts }
+with-test t test = record { places = t .places; filtered = t .filtered; means = t .means; clock = t .clock; analog = t .analog; asleep = t .asleep; «auto_cycles» = t .«auto_cycles»; test = test; «data_ready» = t .«data_ready»; interrupts = t .interrupts }

@@ -153,11 +153,13 @@ impl Sampling {
     {
         let f = self.filter;
         let codes = self.filtered;
+        let means = self.means;
         let clock = self.clock;
         let analog = self.analog;
         Sampling {
             filter: f,
             filtered: codes,
+            means: means,
             clock: clock,
             analog: analog,
             asleep: self.asleep,
@@ -201,6 +203,9 @@ fn filtered_code(
     let mut codes = t.filtered;
     codes[a] = answer;
     u.filtered = codes;
+    let mut means = t.means;
+    means[a] = p.full;
+    u.means = means;
     let i = t.interrupts;
     let r = *registers;
     u.interrupts = i.axis(axis, answer, r);

@@ -15,6 +15,7 @@ impl Acquisition {
         let s = self.sampling;
         let f = s.filter;
         let codes = s.filtered;
+        let means = s.means;
         let clock = s.clock;
         let analog = s.analog;
         let test = s.test;
@@ -22,6 +23,7 @@ impl Acquisition {
         AcquisitionScalars {
             places: f.places(),
             filtered: codes,
+            means: means,
             clock: clock,
             analog: analog,
             asleep: s.asleep,
@@ -39,12 +41,14 @@ impl AcquisitionScalars {
     {
         let places = self.places;
         let codes = self.filtered;
+        let means = self.means;
         let clock = self.clock;
         let analog = self.analog;
         let interrupts = self.interrupts;
         AcquisitionScalars {
             places: places,
             filtered: codes,
+            means: means,
             clock: clock,
             analog: analog,
             asleep: self.asleep,
@@ -71,6 +75,7 @@ impl AcquisitionScalars {
     {
         let places = self.places;
         let codes = self.filtered;
+        let means = self.means;
         let clock = self.clock;
         let analog = self.analog;
         let test = self.test;
@@ -78,6 +83,7 @@ impl AcquisitionScalars {
         let sampling = Sampling {
             filter: places.joined(history),
             filtered: codes,
+            means: means,
             clock: clock,
             analog: analog,
             asleep: self.asleep,

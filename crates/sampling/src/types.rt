@@ -19,9 +19,11 @@ pub enum Test {
     Phases(u8),
 }
 
+// `means` says of each axis whether the value that it shows is the mean of a full window or a single code.
 pub struct Sampling {
     pub filter: Filter,
     pub filtered: [i16; 3],
+    pub means: [bool; 3],
     pub clock: Clock,
     pub analog: Analog,
     pub asleep: bool,
@@ -41,6 +43,7 @@ pub struct Acquisition {
 pub(crate) struct AcquisitionScalars {
     pub(crate) places: RingState,
     pub(crate) filtered: [i16; 3],
+    pub(crate) means: [bool; 3],
     pub(crate) clock: Clock,
     pub(crate) analog: Analog,
     pub(crate) asleep: bool,

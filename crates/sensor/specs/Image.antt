@@ -81,7 +81,7 @@ new-kept = record {
 }
 
 abbrev pub fresh-sampling : (now : Time) → Sampling
-fresh-sampling now = record { filter = made 6; filtered = replicate 3 (pos 0); clock = Clock.started now; analog = rest now; asleep = false; «auto_cycles» = 0; test = Test.Off; «data_ready» = false }
+fresh-sampling now = record { filter = made 6; filtered = replicate 3 (pos 0); means = replicate 3 false; clock = Clock.started now; analog = rest now; asleep = false; «auto_cycles» = 0; test = Test.Off; «data_ready» = false }
 
 -- 3 ms to the first scan
 abbrev pub acquiring : (now : Time) → Deadlines

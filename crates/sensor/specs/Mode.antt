@@ -34,7 +34,7 @@ use Rattle.sensor.specs.Image.{copy-image, reset-registers}
 
 -- awake with an empty filter and no scan counted; the stage goes on from where it was
 abbrev pub acquiring : Sampling → ℕ → (now : Time) → Sampling
-acquiring g b now = record { filter = made b; filtered = g .filtered; clock = g .clock; analog = all-resumed (g .analog) now; asleep = false; «auto_cycles» = 0; test = g .test; «data_ready» = g .«data_ready» }
+acquiring g b now = record { filter = made b; filtered = g .filtered; means = g .means; clock = g .clock; analog = all-resumed (g .analog) now; asleep = false; «auto_cycles» = 0; test = g .test; «data_ready» = g .«data_ready» }
 
 -- acquisition starts: samples begin so that the first scan is complete after `ready` (`start_acquisition`)
 abbrev pub start-acquisition : Sensor → (now : Time) (ready : Duration) → Sensor
@@ -125,9 +125,9 @@ automatic-control s now was-criterion verify =
 
 -- ---- soft reset (`soft_reset`)
 
--- no code, no self test, no new data; the stage at rest
+-- no code, every axis single, no self test, no new data; the stage at rest
 abbrev pub cleared : Sampling → (now : Time) → Sampling
-cleared g now = record { filter = g .filter; filtered = replicate 3 (pos 0); clock = g .clock; analog = rest now; asleep = g .asleep; «auto_cycles» = g .«auto_cycles»; test = Test.Off; «data_ready» = false }
+cleared g now = record { filter = g .filter; filtered = replicate 3 (pos 0); means = replicate 3 false; clock = g .clock; analog = rest now; asleep = g .asleep; «auto_cycles» = g .«auto_cycles»; test = Test.Off; «data_ready» = false }
 
 -- registers, criteria and the I2C state as at a start, and the image copied
 abbrev pub reloaded : Sensor → Sensor

@@ -126,13 +126,13 @@ tests (Test.Phases n) = true
 -- ---- parts of the sampling
 
 abbrev pub with-filter : Sampling → Filter → Sampling
-with-filter g f = record { filter = f; filtered = g .filtered; clock = g .clock; analog = g .analog; asleep = g .asleep; «auto_cycles» = g .«auto_cycles»; test = g .test; «data_ready» = g .«data_ready» }
+with-filter g f = record { filter = f; filtered = g .filtered; means = g .means; clock = g .clock; analog = g .analog; asleep = g .asleep; «auto_cycles» = g .«auto_cycles»; test = g .test; «data_ready» = g .«data_ready» }
 
 abbrev pub with-asleep : Sampling → Bool → Sampling
-with-asleep g b = record { filter = g .filter; filtered = g .filtered; clock = g .clock; analog = g .analog; asleep = b; «auto_cycles» = g .«auto_cycles»; test = g .test; «data_ready» = g .«data_ready» }
+with-asleep g b = record { filter = g .filter; filtered = g .filtered; means = g .means; clock = g .clock; analog = g .analog; asleep = b; «auto_cycles» = g .«auto_cycles»; test = g .test; «data_ready» = g .«data_ready» }
 
 abbrev pub with-cycles : Sampling → ℕ → Sampling
-with-cycles g n = record { filter = g .filter; filtered = g .filtered; clock = g .clock; analog = g .analog; asleep = g .asleep; «auto_cycles» = n; test = g .test; «data_ready» = g .«data_ready» }
+with-cycles g n = record { filter = g .filter; filtered = g .filtered; means = g .means; clock = g .clock; analog = g .analog; asleep = g .asleep; «auto_cycles» = n; test = g .test; «data_ready» = g .«data_ready» }
 
 abbrev pub with-ready : Sampling → Bool → Sampling
-with-ready g b = record { filter = g .filter; filtered = g .filtered; clock = g .clock; analog = g .analog; asleep = g .asleep; «auto_cycles» = g .«auto_cycles»; test = g .test; «data_ready» = b }
+with-ready g b = record { filter = g .filter; filtered = g .filtered; means = g .means; clock = g .clock; analog = g .analog; asleep = g .asleep; «auto_cycles» = g .«auto_cycles»; test = g .test; «data_ready» = b }

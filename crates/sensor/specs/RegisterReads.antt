@@ -2,7 +2,7 @@
 use Prim.Native.Nat.{ℕ, _+_}
 use mathlib.Core.Bool.{Bool, false, not, _&&_}
 use lib.Dec.{eqb}
-use lib.ListN.{set}
+use lib.ListN.{getD, set}
 use lib.Bits.{bitOr}
 use Rattle.laws.specs.Notation.{if_then_else_, Byte, Address}
 use Rattle.interrupts.specs.Pin as Pin
@@ -14,6 +14,9 @@ use Rattle.registers.specs.Map.{at, status, operation, acc-lsb, shadow-dis}
 use Rattle.registers.specs.Access.{withheld}
 use Rattle.sensor.specs.declared.types.View.{View}
 use Rattle.sensor.specs.declared.types.View.the-variants as View
+use Rattle.sensor.specs.declared.types.Mark.{Mark}
+use Rattle.sensor.specs.declared.types.Mark.the-variants as Mark
+use Rattle.sensor.specs.declared.types.Viewed.{Viewed}
 use Rattle.sensor.specs.declared.types.Fetched.{Fetched}
 use Rattle.sensor.specs.declared.types.Sensor.{Sensor}
 use Rattle.sensor.specs.Record.{with-registers, with-reads, with-sampling, is-quiet, gate, with-ready}
@@ -25,6 +28,21 @@ shown s address = if eqb address status then bitOr (at (s .registers) status) (P
 unfoldable pub peek : Sensor → (address : Address) → View
 peek s address =
     if withheld address (gate s) then View.Withheld else View.Byte (shown s address)
+
+-- the mark of an acceleration's registers 02 to 07: whether the value that its axis shows is the mean of a full window; no other register has one
+unfoldable pub mark : Sensor → (address : Address) → Mark
+mark s address =
+    if not (R.is-acceleration address) then Mark.Nothing
+    else if getD (s .sampling .means) (R.axis-of address) false then Mark.Mean else Mark.Single
+
+-- where the byte is withheld there is no mark
+unfoldable pub mark-of : View → Sensor → (address : Address) → Mark
+mark-of (View.Byte b) s address = mark s address
+mark-of View.Withheld s address = Mark.Nothing
+
+-- what a view answers: the byte or its absence, and the mark
+abbrev pub viewed : Sensor → (address : Address) → Viewed
+viewed s address = record { view = peek s address; mark = mark-of (peek s address) s address }
 
 -- the address of the low byte of an acceleration
 abbrev pub low-address : (address : Address) → ℕ

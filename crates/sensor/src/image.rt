@@ -127,6 +127,7 @@ fn fresh_sampling(now: Time) -> Sampling
     Sampling {
         filter: Filter::new(6),
         filtered: [0; 3],
+        means: [false; 3],
         clock: Clock::new(now),
         analog: Analog::at_rest(now),
         asleep: false,

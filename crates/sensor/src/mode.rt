@@ -44,6 +44,7 @@ fn cleared(sampling: Sampling, now: Time) -> Sampling
     let h = sampling.rest(now);
     let mut g = h.with_test(Test::Off);
     g.filtered = [0; 3];
+    g.means = [false; 3];
     g.data_ready = false;
     g
 }

@@ -1,11 +1,15 @@
 // Register views and reads.
 ghost use mathlib.Core.Path.{_≡_};
+ghost use mathlib.Core.Bool.{false};
+ghost use lib.ListN.{getD};
 ghost use Rattle.reads.specs.declared.Prepared.{Prepared};
 ghost use Rattle.sensor.specs.RegisterReads as B;
 use crate::record::byte_at;
 use crate::types::Fetched;
+use crate::types::Mark;
 use crate::types::Sensor;
 use crate::types::View;
+use crate::types::Viewed;
 use reads::Prepared;
 use reads::axis_of;
 use reads::is_acceleration;
@@ -22,6 +26,16 @@ fn low_address(address: u8) -> u8
     ensures { λ r. ⌜ r ≡ B.low-address address ⌝ }
 {
     2 + axis_of(address) * 2
+}
+
+// Whether the value of an axis is a mean; of no other number is it.
+fn is_mean(means: [bool; 3], axis: u8) -> bool
+    ensures { λ r. ⌜ r ≡ getD means axis false ⌝ }
+{
+    if axis < 3 {
+        return means[axis as usize];
+    }
+    false
 }
 
 impl Sensor {
@@ -43,6 +57,41 @@ impl Sensor {
             return View::Withheld;
         }
         View::Byte(self.shown(address))
+    }
+
+    // The mark of an acceleration's register.
+    fn mark(self, address: u8) -> Mark
+        ensures { λ r. ⌜ r ≡ B.mark self address ⌝ }
+    {
+        if !is_acceleration(address) {
+            return Mark::Nothing;
+        }
+        let g = self.sampling;
+        let means = g.means;
+        if is_mean(means, axis_of(address)) {
+            return Mark::Mean;
+        }
+        Mark::Single
+    }
+
+    fn mark_of(self, view: View, address: u8) -> Mark
+        ensures { λ r. ⌜ r ≡ B.mark-of view self address ⌝ }
+    {
+        match view {
+            View::Byte(_) => self.mark(address),
+            View::Withheld => Mark::Nothing,
+        }
+    }
+
+    // What a view answers: the byte, and the mark of an acceleration.
+    pub fn viewed(self, address: u8) -> Viewed
+        ensures { λ r. ⌜ r ≡ B.viewed self address ⌝ }
+    {
+        let view = self.peek(address);
+        Viewed {
+            view: view,
+            mark: self.mark_of(view, address),
+        }
     }
 
     fn prepared(self, address: u8, viewed: u8) -> Prepared

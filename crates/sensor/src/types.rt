@@ -54,6 +54,19 @@ pub enum View {
     Withheld,
 }
 
+// Whether the value of an acceleration is the mean of a full window or a single code, where a view shows one.
+pub enum Mark {
+    Mean,
+    Single,
+    Nothing,
+}
+
+// What a view answers.
+pub struct Viewed {
+    pub view: View,
+    pub mark: Mark,
+}
+
 // A byte fetched to be sent.
 pub struct Fetched {
     pub sensor: Sensor,

@@ -31,7 +31,7 @@ pub struct Profile {
 use Image::{Any, Automatic, Interrupts, Motion, Near, Stock};
 use Pace::{Bus, Edges, Even, Slow, Still, Swift};
 use Story::{
-    Alarm, Answer, Band, Beside, Blind, Copy, Crossed, Dimmed, Drowse, Duration, Flicker, Hushed,
+    Alarm, Answer, Band, Beside, Blind, Copy, Crossed, Dimmed, Drowse, Duration, Fill, Flicker, Hushed,
     Locked, Lull, Midway, Nap, Orphan, Pair, Resume, Shake, Shared, Strike, Switch, Toggle, Unseen,
     Upset, Within,
 };
@@ -55,7 +55,7 @@ const PLAIN: Profile = Profile {
     automatic: 10,
 };
 
-pub static PROFILES: [Profile; 14] = [
+pub static PROFILES: [Profile; 15] = [
     Profile {
         name: "i2c",
         weights: [1, 2, 0, 1, 0, 2, 0, 8, 10, 3, 3, 2, 0, 1, 4, 1, 3],
@@ -200,6 +200,16 @@ pub static PROFILES: [Profile; 14] = [
         spi: 90,
         broken: 3,
         extreme: 20,
+        ..PLAIN
+    },
+    Profile {
+        name: "means",
+        weights: [1, 2, 1, 0, 1, 2, 1, 1, 1, 0, 0, 3, 0, 1, 2, 2, 24],
+        stories: &[Fill],
+        images: [Stock, Near, Any, Automatic],
+        paces: [Still, Swift, Bus, Edges],
+        spi: 90,
+        broken: 3,
         ..PLAIN
     },
 ];

@@ -57,6 +57,8 @@ pub enum Story {
     Lull,
     /// What stops the low-pass stage while it moves.
     Upset,
+    /// Scans up to a full window, from what empties it.
+    Fill,
 }
 
 impl Generator {
@@ -89,6 +91,7 @@ impl Generator {
             Story::Strike => self.strike(),
             Story::Lull => self.lull(),
             Story::Upset => self.upset(),
+            Story::Fill => self.fill(),
         }
     }
 

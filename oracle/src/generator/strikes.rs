@@ -157,7 +157,7 @@ impl Generator {
     }
 
     /// Serve what is due before the sensor samples.
-    fn wake(&mut self) {
+    pub(super) fn wake(&mut self) {
         for _ in 0..3 {
             if self.model.next_sample().is_none() {
                 self.serve(1);

@@ -14,15 +14,16 @@ use Rattle.deadlines.specs.Deadlines.{is-set}
 use Rattle.calls.specs.Facts.{facts}
 use Rattle.calls.specs.Table.{wrong-length, out-of-range, jumps, late, too-late, goes-back, before-due, beside-due, first-found, refusal, reserved, turned-down, start-refusal, unless-refused}
 use Rattle.sensor.specs.Image.{shadowing}
-use Rattle.sensor.specs.RegisterReads.{peek, shown}
+use Rattle.reads.specs.Reads.{is-acceleration}
+use Rattle.sensor.specs.RegisterReads.{peek, mark, mark-of, shown}
 use Rattle.sensor.specs.Mode.{interrupt, shows-new-data}
 use Rattle.serial.specs.Outputs.{output, data-output, spi-drives, i2c-holds}
-use Rattle.bma150.specs.Values.{drive-letter, view-value}
+use Rattle.bma150.specs.Values.{drive-letter, view-value, mark-letter}
 use Rattle.bma150.specs.Called.{after-start, leaves, adds}
 use Rattle.machine.specs.Machine.{turn}
 use Rattle.machine.specs.Block as M
 use Rattle.commands.specs.Decode.{number-at, view, wants, wants-from-0c, wants-06-to-0b, decode-from-0c, decode-06-to-0b, decode-01-to-05, decoded, call-size, size, is-bad}
-use Rattle.bench.specs.Text.{word, bit, view-text, due-text}
+use Rattle.bench.specs.Text.{word, bit, view-text, mark-text, due-text}
 use Rattle.bench.specs.Line.{commanded, added-text, pins, line}
 use Rattle.bench.specs.declared.Ran.{Ran}
 use Rattle.bench.specs.Block.{is-whole, block, answer}
@@ -49,7 +50,7 @@ abbrev over : Turn
 over = arrived 0 0 (ran .sensor)
 
 pub example : Turns false 3 sent (ascii "0b ok 0 F F 02\n") over sent
-unfolding facts wrong-length out-of-range jumps late too-late goes-back before-due beside-due first-found refusal reserved turned-down start-refusal unless-refused after-start leaves adds shadowing peek shown interrupt shows-new-data output data-output spi-drives i2c-holds drive-letter view-value is-set withheld unreadable image-blocks locked Pin.output Pin.threshold-output Pin.motion-output configure number-at view wants wants-from-0c wants-06-to-0b decode-from-0c decode-06-to-0b decode-01-to-05 decoded call-size size is-bad word bit view-text due-text commanded added-text pins line turn iterate M.least M.pace M.block is-whole goes-on
+unfolding facts wrong-length out-of-range jumps late too-late goes-back before-due beside-due first-found refusal reserved turned-down start-refusal unless-refused after-start leaves adds shadowing peek is-acceleration mark mark-of shown interrupt shows-new-data output data-output spi-drives i2c-holds drive-letter view-value mark-letter is-set withheld unreadable image-blocks locked Pin.output Pin.threshold-output Pin.motion-output configure number-at view wants wants-from-0c wants-06-to-0b decode-from-0c decode-06-to-0b decode-01-to-05 decoded call-size size is-bad word bit view-text mark-text due-text commanded added-text pins line turn iterate M.least M.pace M.block is-whole goes-on
 example =
     Turns.more
     (Turns.more

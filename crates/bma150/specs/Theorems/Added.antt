@@ -10,12 +10,12 @@ use Rattle.calls.specs.declared.types.Timed.the-variants as Timed
 use Rattle.calls.specs.declared.types.Call.the-variants as Call
 use Rattle.calls.specs.Table.{unless-refused}
 use Rattle.calls.specs.Theorems.Left.{accepted-is, view-accepted}
-use Rattle.sensor.specs.RegisterReads.{peek}
+use Rattle.sensor.specs.RegisterReads.{viewed}
 use Rattle.samples.specs.Samples.{interaction-deadline}
 use Rattle.waits.specs.declared.types.Report.{Report}
 use Rattle.waits.specs.declared.types.Report.the-variants as Report
 use Rattle.bma150.specs.declared.host.Bma150.{Bma150}
-use Rattle.bma150.specs.Values.{report-values, view-value}
+use Rattle.bma150.specs.Values.{report-values}
 use Rattle.bma150.specs.Called.{Added, reported, of-view, put-in, timed-adds, served, leaves, adds, number, called}
 
 -- a timed call's report fixes what it adds
@@ -75,6 +75,6 @@ module _ (s : Bma150) (address : ℕ) where
   unfolding leaves unless-refused
   view-leaves = rw (view-accepted (s .last) (interaction-deadline (s .sensor)) (s .sensor .kept .lines) address)
 
-  pub view-adds : of-view (view-value (peek (s .sensor) address)) ≡ called s (Call.View address) .adds
+  pub view-adds : of-view (viewed (s .sensor) address) ≡ called s (Call.View address) .adds
   unfolding adds unless-refused
   view-adds = rw (view-accepted (s .last) (interaction-deadline (s .sensor)) (s .sensor .kept .lines) address)

@@ -32,7 +32,7 @@ use Rattle.sensor.specs.RegisterReads.{peek, fetched}
 use Rattle.serial.specs.I2cPins.{ones-for, acted}
 use Rattle.serial.specs.Outputs.{i2c-holds, spi-drives}
 use Rattle.bma150.specs.declared.host.Bma150.{Bma150}
-use Rattle.bma150.specs.Called.{Added, adds, of-view, effect, leaves}
+use Rattle.bma150.specs.Called.{Added, adds, effect, leaves}
 use Rattle.bma150.specs.Values.{view-value}
 use Rattle.book.specs.Lists.{accepts, step, after, accepted}
 use Rattle.bus.specs.I2c.{Heard, events, target-of, fetch, ended, shown, seen-of}
@@ -141,7 +141,7 @@ or-ones (some b) = b
 value-of : Added → Option ℕ
 value-of Added.nothing = none
 value-of (Added.report values) = none
-value-of (Added.viewed value) = value
+value-of (Added.viewed value mark) = value
 value-of (Added.put bytes) = none
 
 viewed-fetched : (v : View) (s : Sensor) (r : ℕ) → is-shadowed r (not (shadow-dis (at (s .registers) operation))) ≡ false → ones-for (fetched v s r .sent) ≡ or-ones (view-value v)
@@ -149,10 +149,7 @@ unfolding fetched ones-for or-ones view-value prepared
 viewed-fetched View.Withheld s r e = refl
 viewed-fetched (View.Byte b) s r e = rw e
 
-pub read-is-view : (s : Bma150) (r : ℕ) (v : Option ℕ) → is-shadowed r (not (shadow-dis (at (s .sensor .registers) operation))) ≡ false
-    → adds s (Call.View r) ≡ of-view v → fetch (s .sensor) r ≡ or-ones v
+pub read-is-view : (s : Bma150) (r : ℕ) (v mark : Option ℕ) → is-shadowed r (not (shadow-dis (at (s .sensor .registers) operation))) ≡ false
+    → adds s (Call.View r) ≡ Added.viewed v mark → fetch (s .sensor) r ≡ or-ones v
 unfolding adds value-of
-read-is-view s r v e a = viewed-fetched (peek (s .sensor) r) (s .sensor) r e ∙ ap or-ones (viewed-same a)
-  where
-    viewed-same : {a b : Option ℕ} → of-view a ≡ of-view b → a ≡ b
-    viewed-same {a} {b} p = ap value-of p
+read-is-view s r v mark e a = viewed-fetched (peek (s .sensor) r) (s .sensor) r e ∙ ap or-ones (ap value-of a)

@@ -1,19 +1,17 @@
 -- When the stage moves, and when it is left alone (analog.rs as bma150.rs and bma150/control.rs call it): an equation for each.
 use Prim.Native.Nat.{ℕ, suc, _-_, _<_, _≤_}
-use native.Mathlib.Omega.{arith}
-use mathlib.Core.Path.{_≡_, refl, sym, ap, _∙_}
-use mathlib.Core.Bool.{Bool, true, false, cond, _&&_}
+use mathlib.Core.Path.{_≡_, refl, ap, _∙_}
+use mathlib.Core.Bool.{Bool, true, false, cond}
 use mathlib.Core.List.{List}
-use lib.Dec.{eqb, ltb}
+use lib.Dec.{eqb}
 use lib.IntN.{ℤ}
-use borrow.Author.Tests.{le-ltb, lt-ltb, ne-eqb}
+use borrow.Author.Tests.{le-ltb, lt-ltb}
 use Rattle.time.specs.declared.Time.{Time}
 use Rattle.time.specs.declared.Duration.{Duration}
 use Rattle.time.specs.Clock as Clock
 use Rattle.analog.specs.declared.types.Analog.{Analog}
 use Rattle.analog.specs.Axis as A
 use Rattle.sampling.specs.declared.types.Input.{Input}
-use Rattle.sampling.specs.declared.types.Test.{Test}
 use Rattle.sampling.specs.declared.types.Test.the-variants.{Off, Phases}
 use Rattle.sampling.specs.declared.types.Acquisition.{Acquisition}
 use Rattle.sampling.specs.Phase as Phase
@@ -27,7 +25,8 @@ use Rattle.sensor.specs.Image.{from-nonvolatile}
 use Rattle.sensor.specs.Select.{reselected, selected-to, may-select}
 use Rattle.sensor.specs.Mode.{start-acquisition, pause, soft-reset}
 use Rattle.waits.specs.declared.types.Served.{Served}
-use Rattle.waits.specs.Supply.{without-report, held, cut, power-off, zero-while-off, reacquired, warm-return, returned, supply-low, supply-ok, set-supply, turned, set-input}
+use Rattle.effects.specs.Theorems.Phases.{phase-measures, phase-warms, phase-tests}
+use Rattle.waits.specs.Supply.{without-report, held, cut, power-off, zero-while-off, reacquired, returned, supply-low, supply-ok, set-supply, turned, set-input}
 
 -- the stage of a sensor, and of what a phase changes
 abbrev pub stage : Sensor → Analog
@@ -81,53 +80,15 @@ pub record Moves : Type 0 where
 
 -- ---- phases
 
--- either of two with the stage of a third
-either : (b : Bool) (d e c : Acquisition) → stage-of d ≡ stage-of c → stage-of e ≡ stage-of c → stage-of (cond b d e) ≡ stage-of c
-either true d e c p q = p
-either false d e c p q = q
+module _ (c : Acquisition) (input : Input) (needs : List ℕ) where
+  axis-moves : (axis : ℕ) → Phase.phase-of (c .sampling .clock .ordinal) ≡ suc axis → c .sampling .test ≡ Off → stage-of (Phase.sample-phase c input needs) ≡ stage-of (Phase.measured c input axis)
+  axis-moves axis p e = phase-measures stage-of (λ d i. refl) (λ d. refl) input needs c axis p e
 
-module _ (input : Input) (needs : List ℕ) where
-  observed-stage : (c : Acquisition) → stage-of (Phase.observed c needs) ≡ stage-of c
-  unfolding Phase.observed
-  observed-stage c = either (Phase.observing (c .registers) (c .sampling)) _ c c refl refl
+  temperature-stays : Phase.phase-of (c .sampling .clock .ordinal) ≡ 0 → stage-of (Phase.sample-phase c input needs) ≡ stage-of c
+  temperature-stays p = phase-warms stage-of (λ d i. refl) (λ d. refl) input needs c p
 
-  scanned-stage : (c : Acquisition) (axis : ℕ) → stage-of (Phase.scanned c axis needs) ≡ stage-of c
-  unfolding Phase.scanned
-  scanned-stage c axis = either (eqb axis 2) _ c c (observed-stage (Phase.counted c)) refl
-
-  -- a phase of an axis, without a self test and with one
-  axis-moves : (t : Test) (c : Acquisition) (axis : ℕ) → t ≡ Off → stage-of (Phase.axis-phase t c input (suc axis) needs) ≡ stage-of (Phase.measured c input axis)
-  unfolding Phase.axis-phase
-  axis-moves t c axis e =
-      let k : suc axis - 1 ≡ axis = omega arith in
-      rw (e, k) (scanned-stage (Phase.measured c input axis) axis)
-
-  test-stays : (t : Test) (c : Acquisition) (left phase : ℕ) → t ≡ Phases left → stage-of (Phase.axis-phase t c input phase needs) ≡ stage-of c
-  unfolding Phase.axis-phase
-  test-stays t c left phase e = rw e (either (eqb phase 3 && eqb left 0) _ c c refl refl)
-
-  counted-off : (t : Test) → t ≡ Off → Phase.test-counted t ≡ Off
-  unfolding Phase.test-counted
-  counted-off t e = rw e
-
-  counted-on : (t : Test) (left : ℕ) → t ≡ Phases left → Phase.test-counted t ≡ Phases (Phase.one-less left)
-  unfolding Phase.test-counted
-  counted-on t left e = rw e
-
-  phase-moves : (c : Acquisition) (axis : ℕ) → Phase.phase-of (c .sampling .clock .ordinal) ≡ suc axis → c .sampling .test ≡ Off
-      → stage-of (Phase.sample-phase c input needs) ≡ stage-of (Phase.measured c input axis)
-  unfolding Phase.sample-phase
-  phase-moves c axis p e = rw (p, ne-eqb (suc axis) 0 (λ h. absurd (omega (arith, h)))) (axis-moves (Phase.test-counted (c .sampling .test)) _ axis (counted-off _ e))
-
-  temperature-stays : (c : Acquisition) → Phase.phase-of (c .sampling .clock .ordinal) ≡ 0 → stage-of (Phase.sample-phase c input needs) ≡ stage-of c
-  unfolding Phase.sample-phase
-  temperature-stays c p = rw p
-
-  self-test-stays : (c : Acquisition) (left : ℕ) → c .sampling .test ≡ Phases left → stage-of (Phase.sample-phase c input needs) ≡ stage-of c
-  unfolding Phase.sample-phase
-  self-test-stays c left e =
-      either (eqb (Phase.phase-of (c .sampling .clock .ordinal)) 0) _ _ c refl
-      (test-stays (Phase.test-counted (c .sampling .test)) _ (Phase.one-less left) (Phase.phase-of (c .sampling .clock .ordinal)) (counted-on _ left e))
+  test-stays : (left : ℕ) → c .sampling .test ≡ Phases left → stage-of (Phase.sample-phase c input needs) ≡ stage-of c
+  test-stays left e = phase-tests stage-of (λ d i. refl) (λ d. refl) input needs c left e refl refl refl
 
 -- ---- settings
 
@@ -225,9 +186,9 @@ moves = record {
   start = λ now image. refl;
   rests-after-zero = λ s rail now p off cold. ap left (high s rail now p) ∙ back-cold s rail now off cold;
   reset = λ s now. refl;
-  phase = λ c input needs axis p e. phase-moves input needs c axis p e;
-  temperature = λ c input needs p. temperature-stays input needs c p;
-  self-test = λ c input needs n e. self-test-stays input needs c n e;
+  phase = axis-moves;
+  temperature = temperature-stays;
+  self-test = test-stays;
   set = set-moves;
   set-asleep = asleep-set;
   set-off = off-set;

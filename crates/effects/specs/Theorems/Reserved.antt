@@ -1,10 +1,9 @@
 -- Range code 3 and bandwidth code 7 of register 14, which the data sheet reserves, act as 8 g and bandwidth code 6 (the Rust's rule): nothing but showing the register tells them apart.
-use Prim.Native.Nat.{ℕ, zero, suc, _+_, _-_, _*_, _/_, _%_, min}
+use Prim.Native.Nat.{ℕ, zero, suc, _+_, _-_, _*_, _/_, min}
 use native.Mathlib.Omega.{arith}
 use mathlib.Core.Path.{_≡_, refl, sym, ap, _∙_}
 use mathlib.Core.Bool.{false}
 use mathlib.Core.List.{List, [], _∷_}
-use lib.Dec.{eqb}
 use lib.IntN.{ℤ, pos}
 use lib.ListN.{getD, set}
 use lib.Seq.{getD-set-other}
@@ -100,7 +99,7 @@ reads-as = record {
   converts = converted-alike;
   written = λ s m. rw (selected-alike (s .sampling .filter) m);
   copied = λ s registers m. rw (filter-alike registers m (s .sampling .filter));
-  wakes = λ s m now ready. ap {B = Sampling} (λ (f : Filter). record { filter = f; filtered = s .sampling .filtered; clock = s .sampling .clock; analog = acquiring (s .sampling) 0 now .analog; asleep = false; «auto_cycles» = 0; test = s .sampling .test; «data_ready» = s .sampling .«data_ready» })
+  wakes = λ s m now ready. ap {B = Sampling} (λ (f : Filter). record { filter = f; filtered = s .sampling .filtered; means = s .sampling .means; clock = s .sampling .clock; analog = acquiring (s .sampling) 0 now .analog; asleep = false; «auto_cycles» = 0; test = s .sampling .test; «data_ready» = s .sampling .«data_ready» })
       (alike-at (λ (b : ℕ). made (bandwidth b)) m (assigned m) (made-alike m) (s .registers) measurement);
 }
 

@@ -22,6 +22,9 @@ enum-known-x-2 c = search needs
 put-view-requires : tie.Need-put-view-requires
 put-view-requires c κs = search needs
 
+put-mark-requires : tie.Need-put-mark-requires
+put-mark-requires c κs = search needs
+
 enum-told-2 : tie.Need-enum-told-2
 enum-told-2 c = search needs
 
@@ -41,7 +44,7 @@ returns-2 c = (says (c .put-report .ensures .0) (rw (c .before .before .before .
 
 returns-3 : tie.Need-returns-3
 unfolding extra-adds added-text
-returns-3 c = (says (c .put-view .ensures .0) (rw (c .before .before .before .x2 .given .1)), omega arith)
+returns-3 c = (says (c .before .before .put-view .ensures .0 then c .put-mark .ensures .0) (rw (c .before .before .before .before .before .x2 .given .1)), omega arith)
 
 returns-4 : tie.Need-returns-4
 unfolding extra-adds added-text image-text
@@ -56,6 +59,7 @@ put-extra-spec =
     put-report-requires
     enum-known-x-2
     put-view-requires
+    put-mark-requires
     enum-told-2
     put-requires
     put-hexes-requires

@@ -1,4 +1,3 @@
-use mathlib.Core.Path.{_∙_}
 use borrow.Author.Needs.{needs}
 use Rattle.bench.proofs.steps.begun.Statement.{statement}
 use Rattle.bench.proofs.steps.begun.Tie as tie

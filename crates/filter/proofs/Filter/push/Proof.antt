@@ -22,7 +22,7 @@ returns c =
     let start = c .before .before .before .before .before .before .before in
     let code = back w16 (of-fits (start .fits .code)) tt in
     let places = c .before .before .before .before .before .places .ensures in
-    (c .before .joined .ensures ∙ p .ensures .0 ∙ rw (code, places), back w16 k tt ∙ p .ensures .1 ∙ rw (code, places))
+    (c .before .joined .ensures ∙ p .ensures .0 ∙ rw (code, places), (back w16 k tt ∙ p .ensures .1 .0 ∙ rw (code, places), p .ensures .1 .1 ∙ rw places))
 
 pub push-spec : {M : Type 1} → statement M
 push-spec = tie.close (tie.spec places-requires push-requires joined-requires returns)

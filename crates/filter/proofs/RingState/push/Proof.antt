@@ -1,4 +1,4 @@
-use Rattle.filter.proofs.Codes.{answered-code, answered-ring}
+use Rattle.filter.proofs.Codes.{answered-code, answered-ring, not-full, is-full}
 use Prim.Native.Nat.{_^_, _<_, _≤_}
 use lib.ListN.{length}
 use mathlib.Core.Path.{_≡_, sym, _∙_}
@@ -70,7 +70,7 @@ returns c =
     let f = whole start in
     let a = start .args .axis in
     let few : count-with f a < window f = rw (c .before .before .counted .ensures, c .before .window .ensures) at (c .if1 .taken) in
-    (rw (code-back start, c .before .before .counted .ensures), code-back start ∙ sym (answered-code f a (start .args .code) few))
+    (rw (code-back start, c .before .before .counted .ensures), (code-back start ∙ sym (answered-code f a (start .args .code) few), sym (not-full f a (start .args .code) few)))
 
 mul-mean-of : tie.Need-mul-mean-of
 mul-mean-of c = search needs
@@ -92,7 +92,7 @@ returns-2 c =
     let reach : Reach (c .mean-of .result) (2 ^ 15) = record { reach = c .mean-of .ok } in
     let mean-is = rw (code-back start, c .before .least6 .ensures) at (c .mean-of .ensures) in (
       rw (code-back start, count),
-      back w16 reach tt ∙ mean-is ∙ sym (answered-ring f a (start .args .code) (three start) enough),
+      (back w16 reach tt ∙ mean-is ∙ sym (answered-ring f a (start .args .code) (three start) enough), sym (is-full f a (start .args .code) enough)),
     )
 
 pub push-spec : {M : Type 1} → statement M

@@ -2,34 +2,22 @@ use Prim.Native.Nat.{_^_}
 use mir.Syntax.{w32}
 use Rattle.laws.specs.Signed.{Reach, back}
 use Rattle.sampling.specs.Phase.{axis-input}
-use mathlib.Core.Path.{refl, sym, _∙_}
 use borrow.Author.Needs.{needs}
 use Rattle.sampling.proofs.phase.lagged.Statement.{statement}
 use Rattle.sampling.proofs.phase.lagged.Tie as tie
-use Rattle.sampling.proofs.phase.lagged.Reads as reads
-use Rattle.sampling.proofs.phase.lagged.Lts as lts
-use Rattle.analog.proofs.types.Analog.axis.Reads as axis-reads
-use Rattle.analog.proofs.types.Axis.sample.Reads as sample-reads
-use Rattle.sampling.proofs.phase.axis_input.Reads as axis-input-reads
-use Rattle.time.proofs.Clock.last.Reads as last-reads
 
--- src/phase.rt:177:9
 axis-requires : tie.Need-axis-requires
 axis-requires c κs = search needs
 
--- src/phase.rt:178:15
 last-requires : tie.Need-last-requires
 last-requires c κs = search needs
 
--- src/phase.rt:178:29
 axis-input-requires : tie.Need-axis-input-requires
 axis-input-requires c κs = search needs
 
--- src/phase.rt:178:5
 sample-requires : tie.Need-sample-requires
 sample-requires c κs = search needs
 
--- src/phase.rt:172:1
 returns : tie.Need-returns
 returns c =
     let v = c .before .axis-input in

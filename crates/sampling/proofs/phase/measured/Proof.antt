@@ -1,39 +1,25 @@
 use Prim.Native.Nat.{_^_}
 use mir.Syntax.{w16, w64}
 use Rattle.laws.specs.Signed.{Reach, back}
-use mathlib.Core.Path.{refl, sym, _∙_}
 use borrow.Author.Needs.{needs}
 use Rattle.sampling.proofs.phase.measured.Statement.{statement}
 use Rattle.sampling.proofs.phase.measured.Tie as tie
-use Rattle.sampling.proofs.phase.measured.Reads as reads
-use Rattle.sampling.proofs.phase.measured.Lts as lts
-use Rattle.analog.proofs.types.Axis.value.Reads as value-reads
-use Rattle.sampling.proofs.phase.converted.Reads as converted-reads
-use Rattle.sampling.proofs.phase.filtered_code.Reads as filtered-code-reads
-use Rattle.sampling.proofs.phase.lagged.Reads as lagged-reads
-use Rattle.sampling.proofs.types.AcquisitionScalars.with_axis.Reads as with-axis-reads
 
--- src/phase.rt:221:9
 lagged-requires : tie.Need-lagged-requires
 lagged-requires c κs = search needs
 
--- src/phase.rt:222:34
 value-requires : tie.Need-value-requires
 value-requires c κs = search needs
 
--- src/phase.rt:222:9
 converted-requires : tie.Need-converted-requires
 converted-requires c κs = search needs
 
--- src/phase.rt:223:9
 with-axis-requires : tie.Need-with-axis-requires
 with-axis-requires c κs = search needs
 
--- src/phase.rt:224:5
 filtered-code-requires : tie.Need-filtered-code-requires
 filtered-code-requires c κs = search needs
 
--- src/phase.rt:211:1
 returns : tie.Need-returns
 returns c =
     let k = c .before .before .before .before .converted in

@@ -9,7 +9,7 @@ with-test-requires : tie.Need-with-test-requires
 with-test-requires c κs = search needs
 
 returns : tie.Need-returns
-returns c = simp (c .before .with-test .ensures, c .before .before .rest .ensures)
+returns c = simp (c .before .before .with-test .ensures, c .before .before .before .rest .ensures)
 
 pub cleared-spec : {M : Type 1} → statement M
 cleared-spec = tie.close (tie.spec rest-requires with-test-requires returns)

@@ -1,29 +1,20 @@
 use Rattle.sampling.specs.Stage.{held}
-use mathlib.Core.Path.{refl, sym, _∙_}
 use mir.Syntax.{w32}
 use mir.Facts.{toZ-ofZ}
 use borrow.Author.Needs.{needs}
 use Rattle.sampling.proofs.types.Sampling.hold.Statement.{statement}
 use Rattle.sampling.proofs.types.Sampling.hold.Tie as tie
-use Rattle.sampling.proofs.types.Sampling.hold.Reads as reads
-use Rattle.sampling.proofs.types.Sampling.hold.Lts as lts
-use Rattle.analog.proofs.types.Analog.hold.Reads as hold-reads
-use Rattle.sampling.proofs.types.Sampling.with_analog.Reads as with-analog-reads
 
--- src/stage.rt:36:13
 returns : tie.Need-returns
 unfolding held
 returns c = rw (c .if1 .taken)
 
--- src/stage.rt:39:26
 hold-requires : tie.Need-hold-requires
 hold-requires c κs = search needs
 
--- src/stage.rt:39:9
 with-analog-requires : tie.Need-with-analog-requires
 with-analog-requires c κs = search needs
 
--- src/stage.rt:32:5
 returns-2 : tie.Need-returns-2
 unfolding held
 returns-2 c =

@@ -1,30 +1,21 @@
 use Rattle.sampling.specs.Stage.{turned}
-use mathlib.Core.Path.{refl, sym, _∙_}
 use mir.Syntax.{w32}
 use mir.Facts.{toZ-ofZ}
 use Rattle.laws.specs.Signed.{back, of-fits}
 use borrow.Author.Needs.{needs}
 use Rattle.sampling.proofs.types.Sampling.turn.Statement.{statement}
 use Rattle.sampling.proofs.types.Sampling.turn.Tie as tie
-use Rattle.sampling.proofs.types.Sampling.turn.Reads as reads
-use Rattle.sampling.proofs.types.Sampling.turn.Lts as lts
-use Rattle.analog.proofs.types.Analog.turn.Reads as turn-reads
-use Rattle.sampling.proofs.types.Sampling.with_analog.Reads as with-analog-reads
 
--- src/stage.rt:46:13
 returns : tie.Need-returns
 unfolding turned
 returns c = rw (c .if1 .taken)
 
--- src/stage.rt:49:26
 turn-requires : tie.Need-turn-requires
 turn-requires c κs = search needs
 
--- src/stage.rt:49:9
 with-analog-requires : tie.Need-with-analog-requires
 with-analog-requires c κs = search needs
 
--- src/stage.rt:42:5
 returns-2 : tie.Need-returns-2
 unfolding turned
 returns-2 c =
