@@ -76,7 +76,7 @@ fn square(f: Factors) -> Factors
 }
 
 // An angle that has been halved, and how many times.
-#[derive(Drop)]
+#[derive(Clone, Copy)]
 pub(crate) struct Halving {
     pub(crate) angle: u64,
     pub(crate) squares: u8,

@@ -1,4 +1,6 @@
 // The stage before sampling (devices/bma150/analog.rs).
+#![tactic(auto)]
+
 mod axis;
 mod decay;
 pub mod types;

@@ -9,13 +9,13 @@ use std::num::{wrapping_add_u64, wrapping_sub_u64};
 // Half of 2^48.
 pub(crate) const HALF: u64 = 140737488355328;
 
-#[derive(Drop)]
+#[derive(Clone, Copy)]
 pub(crate) struct Signed {
     pub(crate) negative: bool,
     pub(crate) size: u64,
 }
 
-#[derive(Drop)]
+#[derive(Clone, Copy)]
 pub(crate) struct Wide {
     pub(crate) negative: bool,
     pub(crate) high: u64,

@@ -1,4 +1,6 @@
 // The bench program's library: commands to calls, replies to lines, and the run over a block of input.
+#![tactic(auto)]
+
 ghost use Rattle.std.specs.Prelude.{◌≡◌, not, cond, ◌&&◌, ◌||◌, ◌≤◌, eqb, length, drop};
 ghost use Rattle.std.proofs.lemmas.List.Edits.{sets};
 ghost use Rattle.bench.specs.Block as B;
@@ -14,7 +16,7 @@ mod text;
 pub mod types;
 
 // After a block: the sensor, the bytes read, the bytes written, and whether refusal 7 stopped it.
-#[derive(Drop)]
+#[derive(Clone, Copy)]
 pub struct Ran {
     pub sensor: Bma150,
     pub read: usize,

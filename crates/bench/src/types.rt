@@ -5,7 +5,7 @@ use sensor::types::{Mark, View};
 use waits::types::Report;
 
 // What a command adds to its line. An image stands beside it.
-#[derive(Drop)]
+#[derive(Clone, Copy)]
 pub enum Extra {
     Nothing,
     Reported(Report),
@@ -13,7 +13,7 @@ pub enum Extra {
     Image,
 }
 
-#[derive(Drop)]
+#[derive(Clone, Copy)]
 pub struct Reply {
     pub sensor: Bma150,
     pub outcome: Outcome,

@@ -1,5 +1,7 @@
 // The bench program's loop: standard input to standard output, a turn at a time. A turn reads, or serves the commands that are there and hands
 // their lines to `write`.
+#![tactic(auto)]
+
 ghost use Rattle.std.specs.Prelude.{◌≡◌, false, ◌+◌, ◌-◌, ◌≤◌, length, take, drop};
 ghost use Rattle.machine.specs.Put.{Put};
 ghost use Rattle.bench.specs.Block.{is_whole};
@@ -12,7 +14,7 @@ use time::Time;
 
 // Between two turns: the bytes from `at` to `have` are yet to be served; `over`: no more come; `stop`: refusal 7 was met; `unread`: a
 // read failed; `unwritten`: a write failed; `written`: the bytes of text that this turn made.
-#[derive(Drop)]
+#[derive(Clone, Copy)]
 pub struct Turn {
     pub at: usize,
     pub have: usize,
@@ -25,7 +27,7 @@ pub struct Turn {
 }
 
 // What a read brought; nothing at the input's end.
-#[derive(Drop)]
+#[derive(Clone, Copy)]
 struct Filled {
     got: usize,
     failed: bool,

@@ -27,7 +27,7 @@ use waits::supply::{set_input, set_supply, set_temperature, without_report};
 use waits::types::{Report, Served};
 
 // The record, and the last accepted time. Only the calls reach them.
-#[derive(Drop)]
+#[derive(Clone, Copy)]
 pub struct Bma150 {
     sensor: Sensor,
     last: Time,

@@ -4,14 +4,14 @@ use calls::types::Outcome;
 use waits::types::Report;
 
 // The sensor and the answer of a call.
-#[derive(Drop)]
+#[derive(Clone, Copy)]
 pub struct Replied {
     pub sensor: Bma150,
     pub outcome: Outcome,
 }
 
 // Those of a call that may report the end of a stored write.
-#[derive(Drop)]
+#[derive(Clone, Copy)]
 pub struct Reported {
     pub sensor: Bma150,
     pub outcome: Outcome,
@@ -19,7 +19,7 @@ pub struct Reported {
 }
 
 // The answer of a lent due call: the sensor stays where the host keeps it.
-#[derive(Drop)]
+#[derive(Clone, Copy)]
 pub struct Answered {
     pub outcome: Outcome,
     pub report: Report,

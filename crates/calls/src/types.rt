@@ -3,7 +3,7 @@ use i2c::types::Levels;
 use time::Time;
 
 // What a timed call does at its moment.
-#[derive(Drop)]
+#[derive(Clone, Copy)]
 pub enum Timed {
     Accelerations(i32, i32, i32),
     Supply(u16),
@@ -14,7 +14,7 @@ pub enum Timed {
 }
 
 // Of a stored-image call's buffer only the length counts.
-#[derive(Drop)]
+#[derive(Clone, Copy)]
 pub enum Call {
     At(Time, Timed),
     Temperature(i32),
@@ -24,14 +24,14 @@ pub enum Call {
 }
 
 // By which call a sensor is started: command 01's, or command 0c's, which takes any image.
-#[derive(Drop)]
+#[derive(Clone, Copy)]
 pub enum Starting {
     Checked,
     Stored,
 }
 
 // Why a call is refused (01's table).
-#[derive(Drop)]
+#[derive(Clone, Copy)]
 pub enum Refusal {
     ImageLength,
     AxisRange,
@@ -45,14 +45,14 @@ pub enum Refusal {
 }
 
 // Accepted, or refused and why.
-#[derive(Drop)]
+#[derive(Clone, Copy)]
 pub enum Outcome {
     Accepted,
     Refused(Refusal),
 }
 
 // Whether a call is the due call, another timed call, or none of 01's timed calls.
-#[derive(Drop)]
+#[derive(Clone, Copy)]
 pub enum Kind {
     Timed,
     Due,
@@ -60,35 +60,35 @@ pub enum Kind {
 }
 
 // The time that a call gives.
-#[derive(Drop)]
+#[derive(Clone, Copy)]
 pub enum Dated {
     At(Time),
     Undated,
 }
 
 // The length of the bytes that a call brings.
-#[derive(Drop)]
+#[derive(Clone, Copy)]
 pub enum Bytes {
     Count(usize),
     Nothing,
 }
 
 // The accelerations that a call sets.
-#[derive(Drop)]
+#[derive(Clone, Copy)]
 pub enum Axes {
     Set(i32, i32, i32),
     Unset,
 }
 
 // The levels of the I2C lines before a pin report.
-#[derive(Drop)]
+#[derive(Clone, Copy)]
 pub enum Lines {
     Before(Levels),
     Unreported,
 }
 
 // What the table asks of a call.
-#[derive(Drop)]
+#[derive(Clone, Copy)]
 pub struct Facts {
     pub kind: Kind,
     pub time: Dated,

@@ -1,4 +1,6 @@
 // The bench program's commands: a byte and its operands, big-endian.
+#![tactic(auto)]
+
 ghost use Rattle.std.specs.Prelude.{◌≡◌, ◌+◌, ◌≤◌, ◌<◌, ◌^◌, length, drop};
 ghost use Rattle.commands.specs.Decode as D;
 
@@ -7,7 +9,7 @@ use i2c::types::Levels;
 use time::Time;
 
 // A start, whose image stays in the input; a call of the host; or no command of the list.
-#[derive(Drop)]
+#[derive(Clone, Copy)]
 pub enum Command {
     Start(Starting, Time),
     Host(Call),

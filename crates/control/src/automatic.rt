@@ -27,7 +27,7 @@ pub fn pauses_again(asleep: bool, pause_set: bool) -> bool
 
 // What the sensor is doing: it sleeps, wakes, tests itself, copies its image, writes a cell, has valid samples, raises its
 // interrupt, verifies a criterion.
-#[derive(Drop)]
+#[derive(Clone, Copy)]
 pub struct Activity {
     pub asleep: bool,
     pub waking: bool,

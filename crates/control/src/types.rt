@@ -1,5 +1,5 @@
 // What a write does, and what a write of 0a does to the self test and to sleep.
-#[derive(Drop)]
+#[derive(Clone, Copy)]
 pub enum WriteKind {
     Ignored,
     Stored,
@@ -11,14 +11,14 @@ pub enum WriteKind {
     Plain,
 }
 
-#[derive(Drop)]
+#[derive(Clone, Copy)]
 pub enum SelfTest {
     Starts,
     Stops,
     Stays,
 }
 
-#[derive(Drop)]
+#[derive(Clone, Copy)]
 pub enum Sleep {
     Wakes,
     Pauses,

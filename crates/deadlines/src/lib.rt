@@ -1,18 +1,20 @@
 // The sensor's deadlines: the earliest, one that has ended, and all of them shifted (bma150.rs).
+#![tactic(auto)]
+
 ghost use Rattle.std.specs.Prelude.{◌≡◌};
 ghost use Rattle.deadlines.specs.Deadlines as D;
 
 use time::{Duration, Time};
 
 // A moment at which something is due, or none.
-#[derive(Drop)]
+#[derive(Clone, Copy)]
 pub enum Deadline {
     At(Time),
     Never,
 }
 
 // What the sensor waits for, apart from its next sample and a stored write.
-#[derive(Drop)]
+#[derive(Clone, Copy)]
 pub struct Deadlines {
     pub serial_ready: Deadline,
     pub wake: Deadline,

@@ -1,4 +1,6 @@
 // The moving average of each axis over its last codes, for a window of 1 to 64.
+#![tactic(auto)]
+
 ghost use Rattle.std.specs.Prelude.{◌≡◌, ◌+◌, ◌-◌, ◌*◌, ◌^◌, ◌<◌, ◌≤◌, min, ◌+ℤ◌, take, drop};
 ghost use Rattle.std.specs.Int.Signed.{mag};
 ghost use Rattle.filter.specs.Mean.{ring, sumZ, mean};
@@ -6,7 +8,7 @@ ghost use Rattle.filter.specs.Filter.{window_of, window, made, selected, places,
 
 // `history` holds the last 64 codes of each axis as a ring, axis * 64 and its place; `next` is the place that an axis
 // writes next and `count` how many codes it holds. The window is 2^shift.
-#[derive(Drop)]
+#[derive(Clone, Copy)]
 pub struct Filter {
     history: [i16; 192],
     next: [u8; 3],
@@ -15,7 +17,7 @@ pub struct Filter {
 }
 
 // `full` says that the answer is the mean of a full window, else it is the code itself.
-#[derive(Drop)]
+#[derive(Clone, Copy)]
 pub struct Pushed {
     pub filter: Filter,
     pub code: i16,
@@ -23,14 +25,14 @@ pub struct Pushed {
 }
 
 // A filter without its history, which is lent beside it.
-#[derive(Drop)]
+#[derive(Clone, Copy)]
 pub struct RingState {
     next: [u8; 3],
     count: [u8; 3],
     shift: u8,
 }
 
-#[derive(Drop)]
+#[derive(Clone, Copy)]
 pub struct RingPushed {
     pub places: RingState,
     pub code: i16,
@@ -66,6 +68,7 @@ fn counted(count: u8) -> u8
 }
 
 // `sum` and the n codes from `from` on.
+#[tactic(auto, unfolding(crate::specs::Mean::sumZ))]
 fn add_run(history: &[i16; 192], from: usize, n: usize, sum: i32) -> i32
     requires { (from + n ≤ 192) × (mag sum + n * 32768 < 2 ^ 31) }
     ensures { (result ≡ sum +ℤ sumZ (take n (drop from history.now))) × (mag result ≤ mag sum + n * 32768) }

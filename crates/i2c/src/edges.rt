@@ -4,6 +4,7 @@ ghost use Rattle.i2c.specs.Bus as B;
 
 use crate::types::{Edge, Levels};
 
+#[tactic(auto, unfolding(crate::specs::Bus::data_moves))]
 fn data_moves(before: Levels, after: Levels) -> bool
     ensures { result ≡ B.data_moves before after }
 {
@@ -19,6 +20,7 @@ fn data_moves(before: Levels, after: Levels) -> bool
 }
 
 // The event that takes the lines from `before` to `after`.
+#[tactic(auto, unfolding(crate::specs::Bus::edge))]
 pub fn edge(before: Levels, after: Levels) -> Edge
     ensures { result ≡ B.edge before after }
 {
@@ -40,6 +42,7 @@ pub fn edge(before: Levels, after: Levels) -> Edge
     Edge::Still
 }
 
+#[tactic(auto, unfolding(crate::specs::Bus::is_condition))]
 pub fn is_condition(e: Edge) -> bool
     ensures { result ≡ B.is_condition e }
 {
@@ -52,6 +55,7 @@ pub fn is_condition(e: Edge) -> bool
     }
 }
 
+#[tactic(auto, unfolding(crate::specs::Bus::is_start))]
 pub fn is_start(e: Edge) -> bool
     ensures { result ≡ B.is_start e }
 {
@@ -64,6 +68,7 @@ pub fn is_start(e: Edge) -> bool
     }
 }
 
+#[tactic(auto, unfolding(crate::specs::Bus::is_rise))]
 pub fn is_rise(e: Edge) -> bool
     ensures { result ≡ B.is_rise e }
 {
@@ -76,6 +81,7 @@ pub fn is_rise(e: Edge) -> bool
     }
 }
 
+#[tactic(auto, unfolding(crate::specs::Bus::is_fall))]
 pub fn is_fall(e: Edge) -> bool
     ensures { result ≡ B.is_fall e }
 {
@@ -88,6 +94,7 @@ pub fn is_fall(e: Edge) -> bool
     }
 }
 
+#[tactic(auto, unfolding(crate::specs::Bus::data_at))]
 pub fn data_at(e: Edge) -> bool
     ensures { result ≡ B.data_at e }
 {

@@ -7,6 +7,7 @@ use crate::edges::{data_at, edge, is_condition, is_fall, is_rise, is_start};
 use crate::types::{Action, Answer, Edge, Following, Levels, Phase, Receive, State, Step};
 use laws::{sent_bit, shifted_in};
 
+#[tactic(auto, unfolding(crate::specs::Engine::acknowledging))]
 fn acknowledging(phase: Phase) -> bool
     ensures { result ≡ E.acknowledging phase }
 {
@@ -28,6 +29,7 @@ fn is_either(e: Edge) -> bool
     is_fall(e)
 }
 
+#[tactic(auto, unfolding(crate::specs::Engine::within_byte))]
 fn within_byte(phase: Phase, bits: u8, e: Edge) -> bool
     ensures { result ≡ E.within_byte phase bits e }
 {
@@ -40,6 +42,7 @@ fn within_byte(phase: Phase, bits: u8, e: Edge) -> bool
     }
 }
 
+#[tactic(auto, unfolding(crate::specs::Engine::at_ninth))]
 fn at_ninth(phase: Phase, e: Edge) -> bool
     ensures { result ≡ E.at_ninth phase e }
 {
@@ -52,6 +55,7 @@ fn at_ninth(phase: Phase, e: Edge) -> bool
     }
 }
 
+#[tactic(auto, unfolding(crate::specs::Engine::completes))]
 fn completes(phase: Phase, e: Edge) -> bool
     ensures { result ≡ E.completes phase e }
 {
@@ -75,6 +79,7 @@ fn silenced(quiet: bool, phase: Phase) -> bool
 }
 
 // The register pointer after bit n was taken: past the last it moves on modulo 128.
+#[tactic(auto, unfolding(crate::specs::Engine::pointer_after))]
 fn pointer_after(pointer: u8, n: u8) -> u8
     ensures { result ≡ E.pointer_after pointer n }
 {
@@ -85,6 +90,7 @@ fn pointer_after(pointer: u8, n: u8) -> u8
 }
 
 // What the master's level at the ninth rise says.
+#[tactic(auto, unfolding(crate::specs::Engine::answer))]
 fn answer(sda: bool) -> Answer
     ensures { result ≡ E.answer sda }
 {
@@ -94,6 +100,7 @@ fn answer(sda: bool) -> Answer
     Answer::Acknowledge
 }
 
+#[tactic(auto, unfolding(crate::specs::Engine::uses_as))]
 fn uses_as(k: Receive, bits: u8) -> bool
     ensures { result ≡ E.uses_as k bits }
 {
@@ -104,6 +111,7 @@ fn uses_as(k: Receive, bits: u8) -> bool
     }
 }
 
+#[tactic(auto, unfolding(crate::specs::Engine::uses_at_rise))]
 fn uses_at_rise(phase: Phase, bits: u8) -> bool
     ensures { result ≡ E.uses_at_rise phase bits }
 {
@@ -116,6 +124,7 @@ fn uses_at_rise(phase: Phase, bits: u8) -> bool
     }
 }
 
+#[tactic(auto, unfolding(crate::specs::Engine::reads_next))]
 fn reads_next(f: Following) -> bool
     ensures { result ≡ E.reads_next f }
 {
@@ -127,6 +136,7 @@ fn reads_next(f: Following) -> bool
     }
 }
 
+#[tactic(auto, unfolding(crate::specs::Engine::goes_on))]
 fn goes_on(a: Answer) -> bool
     ensures { result ≡ E.goes_on a }
 {
@@ -137,6 +147,7 @@ fn goes_on(a: Answer) -> bool
     }
 }
 
+#[tactic(auto, unfolding(crate::specs::Engine::uses_at_fall))]
 fn uses_at_fall(phase: Phase) -> bool
     ensures { result ≡ E.uses_at_fall phase }
 {
@@ -221,6 +232,7 @@ impl State {
         }
     }
 
+    #[tactic(auto, unfolding(crate::specs::Engine::conditioned))]
     fn conditioned(self, e: Edge, quiet: bool) -> Step
         ensures { result ≡ E.conditioned self e quiet }
     {
@@ -252,6 +264,7 @@ impl State {
     }
 
     // The master takes bit n of the byte being sent.
+    #[tactic(auto, unfolding(crate::specs::Engine::bit_taken))]
     fn bit_taken(self, n: u8) -> Step
         requires { n < 8 }
         ensures { result ≡ E.bit_taken self n }
@@ -273,6 +286,7 @@ impl State {
         t.and_do(Action::Nothing)
     }
 
+    #[tactic(auto, unfolding(crate::specs::Engine::within_byte, crate::specs::Engine::byte_step))]
     fn byte_step(self, e: Edge, sent: u8) -> Step
         requires { E.within_byte self.phase self.bits e ≡ true }
         ensures { result ≡ E.byte_step self.phase self e sent }
@@ -293,6 +307,7 @@ impl State {
     }
 
     // The sensor's acknowledge is over.
+    #[tactic(auto, unfolding(crate::specs::Engine::followed))]
     fn followed(self, f: Following) -> Step
         ensures { result ≡ E.followed self f }
     {
@@ -317,6 +332,7 @@ impl State {
         }
     }
 
+    #[tactic(auto, unfolding(crate::specs::Engine::acknowledge_step))]
     fn acknowledge_step(self, f: Following, n: u8, e: Edge) -> Step
         ensures { result ≡ E.acknowledge_step self f n e }
     {
@@ -335,6 +351,7 @@ impl State {
     }
 
     // The master's acknowledge is over.
+    #[tactic(auto, unfolding(crate::specs::Engine::answered))]
     fn answered(self, a: Answer) -> Step
         ensures { result ≡ E.answered self a }
     {
@@ -348,6 +365,7 @@ impl State {
         }
     }
 
+    #[tactic(auto, unfolding(crate::specs::Engine::answer_step))]
     fn answer_step(self, a: Answer, e: Edge) -> Step
         ensures { result ≡ E.answer_step self a e }
     {
@@ -358,6 +376,7 @@ impl State {
         self.answered(a)
     }
 
+    #[tactic(auto, unfolding(crate::specs::Engine::ninth_step))]
     fn ninth_step(self, e: Edge) -> Step
         ensures { result ≡ E.ninth_step self.phase self e }
     {
@@ -382,6 +401,7 @@ impl State {
         t.with_phase(Phase::Acknowledge(f, 0))
     }
 
+    #[tactic(auto, unfolding(crate::specs::Engine::addressed))]
     fn addressed(self, byte: u8) -> Step
         ensures { result ≡ E.addressed self byte }
     {
@@ -397,6 +417,7 @@ impl State {
         t.and_do(Action::Nothing)
     }
 
+    #[tactic(auto, unfolding(crate::specs::Engine::received))]
     fn received(self, k: Receive, byte: u8) -> Step
         ensures { result ≡ E.received k self byte }
     {
@@ -415,6 +436,7 @@ impl State {
         }
     }
 
+    #[tactic(auto, unfolding(crate::specs::Engine::completed))]
     fn completed(self, e: Edge) -> Step
         ensures { result ≡ E.completed self.phase self e }
     {
@@ -429,6 +451,7 @@ impl State {
     }
 
     // The event e: the first step that applies.
+    #[tactic(auto, unfolding(crate::specs::Engine::step))]
     pub fn stepped(self, e: Edge, quiet: bool, sent: u8) -> Step
         ensures { result ≡ E.step self e quiet sent }
     {
@@ -477,6 +500,7 @@ impl State {
     }
 
     // Whether this report uses converted values, so that a sample at the same moment comes first.
+    #[tactic(auto, unfolding(crate::specs::Engine::consumes_conversion))]
     pub fn consumes(self, e: Edge) -> bool
         ensures { result ≡ E.consumes_conversion self e }
     {

@@ -1,14 +1,14 @@
 // The types of the I2C engine. Names are the Rust's (bma150/i2c.rs), but for what it writes as an `Option` or an array.
 
 // The two lines, true where high: the clock (the part's SCK) and the data (its SDI).
-#[derive(Drop)]
+#[derive(Clone, Copy)]
 pub struct Levels {
     pub scl: bool,
     pub sda: bool,
 }
 
 // What a report of the lines is to UM10204: the two conditions, the clock's edges, or no event. A rise has the data level.
-#[derive(Drop)]
+#[derive(Clone, Copy)]
 pub enum Edge {
     Still,
     Start,
@@ -18,7 +18,7 @@ pub enum Edge {
 }
 
 // What the byte being received is.
-#[derive(Drop)]
+#[derive(Clone, Copy)]
 pub enum Receive {
     Address,
     Control,
@@ -26,7 +26,7 @@ pub enum Receive {
 }
 
 // What follows an acknowledge of the sensor's.
-#[derive(Drop)]
+#[derive(Clone, Copy)]
 pub enum Following {
     Control,
     Data,
@@ -35,7 +35,7 @@ pub enum Following {
 }
 
 // What the master answered to a byte that it read, once the ninth clock has risen.
-#[derive(Drop)]
+#[derive(Clone, Copy)]
 pub enum Answer {
     Unseen,
     Acknowledge,
@@ -43,7 +43,7 @@ pub enum Answer {
 }
 
 // Acknowledge: 0 the eighth rise has passed, 1 the pin is held low, 2 the ninth rise has passed. Read: the bits taken.
-#[derive(Drop)]
+#[derive(Clone, Copy)]
 pub enum Phase {
     Idle,
     Receive(Receive),
@@ -52,7 +52,7 @@ pub enum Phase {
     MasterAcknowledge(Answer),
 }
 
-#[derive(Drop)]
+#[derive(Clone, Copy)]
 pub struct State {
     pub phase: Phase,
     pub pointer: u8,
@@ -63,7 +63,7 @@ pub struct State {
 
 // What the sensor has to do: nothing, drop the byte being sent, write a register, fetch and send a register's byte, note
 // that a register's byte is being read.
-#[derive(Drop)]
+#[derive(Clone, Copy)]
 pub enum Action {
     Nothing,
     Drop,
@@ -72,7 +72,7 @@ pub enum Action {
     ReadBegan(u8),
 }
 
-#[derive(Drop)]
+#[derive(Clone, Copy)]
 pub struct Step {
     pub state: State,
     pub action: Action,

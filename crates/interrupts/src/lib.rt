@@ -1,4 +1,6 @@
 // The interrupt criteria of the sensor: high-g, low-g and any motion, with the alert.
+#![tactic(auto)]
+
 mod alert;
 mod motion;
 mod numbers;
@@ -11,7 +13,7 @@ ghost use Rattle.interrupts.specs.State.{new, configure, restart_acquisition, re
 use crate::threshold::Threshold;
 use registers::fields::{HG_DUR, HG_THRES, HYSTERESIS, LG_DUR, LG_THRES, hg_hyst, lg_hyst};
 
-#[derive(Drop)]
+#[derive(Clone, Copy)]
 pub struct Interrupts {
     pub low_g: Threshold,
     pub high_g: Threshold,

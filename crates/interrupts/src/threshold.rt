@@ -4,7 +4,7 @@ ghost use Rattle.interrupts.specs.Criteria.{sets, clears, raised, active, observ
 
 use crate::numbers::{both, either, magnitude};
 
-#[derive(Drop)]
+#[derive(Clone, Copy)]
 pub struct Threshold {
     pub axes: [bool; 3],
     pub count: u16,
@@ -13,7 +13,7 @@ pub struct Threshold {
 }
 
 // A criterion after a millisecond, and whether it fired.
-#[derive(Drop)]
+#[derive(Clone, Copy)]
 pub struct Ticked {
     pub threshold: Threshold,
     pub fired: bool,

@@ -1,4 +1,6 @@
 // Reads records of 32 bytes from standard input and answers each with 16 bytes (oracle/README.md, "Leaves").
+#![tactic(auto)]
+
 mod formulas;
 mod record;
 mod stage;
@@ -10,7 +12,7 @@ use crate::record::{put, record_at};
 use crate::state::Leaves;
 
 // After a block: the state, and whether more may come.
-#[derive(Drop)]
+#[derive(Clone, Copy)]
 struct Turn {
     leaves: Leaves,
     more: bool,

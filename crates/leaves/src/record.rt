@@ -2,7 +2,7 @@
 // big-endian.
 ghost use Rattle.std.specs.Prelude.{◌≤◌};
 
-#[derive(Drop)]
+#[derive(Clone, Copy)]
 pub(crate) struct Record {
     pub(crate) kind: u8,
     pub(crate) a: u8,
@@ -14,7 +14,7 @@ pub(crate) struct Record {
     pub(crate) z: u64,
 }
 
-#[derive(Drop)]
+#[derive(Clone, Copy)]
 pub(crate) struct Answer(pub(crate) u64, pub(crate) u64);
 
 fn wide(x: u8) -> u64 {

@@ -5,7 +5,7 @@ use crate::stage::staged;
 use filter::Filter;
 use interrupts::Interrupts;
 
-#[derive(Drop)]
+#[derive(Clone, Copy)]
 pub(crate) struct Leaves {
     filter: Filter,
     interrupts: Interrupts,

@@ -1,4 +1,6 @@
 // The byte of a cell during and after a stored write (devices/nv.rs).
+#![tactic(auto)]
+
 ghost use Rattle.std.specs.Prelude.{◌≡◌, ◌<◌};
 ghost use Rattle.laws.specs.Bytes as Bytes;
 ghost use Rattle.nv.specs.Cell as C;
@@ -16,7 +18,7 @@ const ERASE: u64 = WRITE / 2;
 const PROGRAM: u64 = WRITE - ERASE;
 
 // A stored write that runs. It ends `WRITE` units after its start.
-#[derive(Drop)]
+#[derive(Clone, Copy)]
 pub struct WriteCycle {
     pub started: Time,
 }
@@ -29,6 +31,7 @@ fn wrapping_mul(x: u32, y: u32) -> u32
 }
 
 // One round of the mixer.
+#[tactic(auto, unfolding(crate::specs::Cell::mixed))]
 fn mixed(shift: u32, factor: u32, key: u32) -> u32
     requires { shift < 32 }
     ensures { result ≡ C.mixed shift factor key }
@@ -37,6 +40,7 @@ fn mixed(shift: u32, factor: u32, key: u32) -> u32
 }
 
 // The threshold of a bit of a cell, from 1 to 65535.
+#[tactic(auto, unfolding(crate::specs::Cell::low_half, crate::specs::Cell::threshold))]
 fn threshold(cell: u32, bit: u8) -> u16
     ensures { result ≡ C.threshold cell bit }
 {
@@ -48,6 +52,7 @@ fn threshold(cell: u32, bit: u8) -> u16
 }
 
 // 1 if a bit of a cell has crossed, else 0.
+#[tactic(auto, unfolding(crate::specs::Cell::crossing))]
 fn crossed_bit(cell: u32, elapsed: u64, duration: u64, bit: u8) -> u8
     ensures { result ≡ Bytes.bit_value (C.has_crossed cell elapsed duration bit) }
 {
@@ -57,6 +62,7 @@ fn crossed_bit(cell: u32, elapsed: u64, duration: u64, bit: u8) -> u8
 }
 
 // The bits that have crossed.
+#[tactic(auto, unfolding(crate::specs::Cell::bits_where))]
 fn crossed(cell: u32, elapsed: u64, duration: u64) -> u8
     ensures { result ≡ C.crossed cell elapsed duration }
 {

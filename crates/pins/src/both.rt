@@ -6,7 +6,7 @@ use spi::types::{Drive, Frame, Sent};
 
 // `operation` is the stored byte of register 15. `awake`: no soft reset since the start, so a sample is next. `consumed`,
 // `hidden` and `viewed` are what the last event answers beside the pins.
-#[derive(Drop)]
+#[derive(Clone, Copy)]
 pub(crate) struct Sensor {
     pub(crate) i2c: State,
     pub(crate) frame: Frame,

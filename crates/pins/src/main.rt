@@ -1,5 +1,7 @@
 // Reads events of the serial pins, a byte each, from standard input and answers each with two bytes (oracle/README.md,
 // "Leaves").
+#![tactic(auto)]
+
 mod both;
 mod bus;
 
@@ -8,7 +10,7 @@ ghost use Rattle.std.specs.Prelude.{◌+◌, ◌*◌, ◌≤◌, length};
 use crate::both::{Sensor, start};
 
 // After a block: the state, and whether more may come.
-#[derive(Drop)]
+#[derive(Clone, Copy)]
 struct Turn {
     sensor: Sensor,
     more: bool,

@@ -1,10 +1,12 @@
 // Reads of the acceleration registers: a pair of bytes held from the low byte to the high byte (bma150.rs).
+#![tactic(auto)]
+
 ghost use Rattle.std.specs.Prelude.{◌≡◌, ◌<◌};
 ghost use Rattle.reads.specs.Reads as R;
 
 // What the reads keep. The held pair of axis a stands at 2a and 2a + 1 of `shadows`, if `held[a]`; the pair that is being
 // sent stands in `tx_pair`, if `paired`.
-#[derive(Drop)]
+#[derive(Clone, Copy)]
 pub struct Reads {
     pub shadows: [u8; 6],
     pub held: [bool; 3],
@@ -15,7 +17,7 @@ pub struct Reads {
 }
 
 // The reads and the byte to send.
-#[derive(Drop)]
+#[derive(Clone, Copy)]
 pub struct Prepared {
     pub reads: Reads,
     pub byte: u8,

@@ -5,7 +5,7 @@ ghost use Rattle.registers.specs.Access.{unwritable, working, stored, image_bloc
 use crate::fields::{EE_W, has};
 
 // What a read or a write meets: the byte of 0a, whether the sensor is quiet, an image copy runs, the sensor sleeps.
-#[derive(Drop)]
+#[derive(Clone, Copy)]
 pub struct Gate {
     pub control: u8,
     pub quiet: bool,
@@ -14,6 +14,7 @@ pub struct Gate {
 }
 
 // There is no register to write.
+#[tactic(auto, unfolding(crate::specs::Access::unwritable))]
 fn unwritable(address: u8) -> bool
     ensures { result ≡ unwritable address }
 {
@@ -24,6 +25,7 @@ fn unwritable(address: u8) -> bool
 }
 
 // The working image, which a copy of the stored image overwrites.
+#[tactic(auto, unfolding(crate::specs::Access::working))]
 pub fn working(address: u8) -> bool
     ensures { result ≡ working address }
 {
@@ -34,6 +36,7 @@ pub fn working(address: u8) -> bool
 }
 
 // The stored image.
+#[tactic(auto, unfolding(crate::specs::Access::stored))]
 pub fn stored(address: u8) -> bool
     ensures { result ≡ stored address }
 {
@@ -44,6 +47,7 @@ pub fn stored(address: u8) -> bool
 }
 
 // An image copy keeps the address from reads and writes.
+#[tactic(auto, unfolding(crate::specs::Access::image_blocks))]
 fn image_blocks(copying: bool, address: u8) -> bool
     ensures { result ≡ image_blocks copying address }
 {
@@ -57,6 +61,7 @@ fn image_blocks(copying: bool, address: u8) -> bool
 }
 
 // A sleeping sensor does not take the write.
+#[tactic(auto, unfolding(crate::specs::Access::sleep_blocks))]
 fn sleep_blocks(asleep: bool, address: u8, value: u8) -> bool
     ensures { result ≡ sleep_blocks asleep address value }
 {
@@ -70,6 +75,7 @@ fn sleep_blocks(asleep: bool, address: u8, value: u8) -> bool
 }
 
 // The address needs ee_w, which is clear.
+#[tactic(auto, unfolding(crate::specs::Access::locked))]
 fn locked(address: u8, control: u8) -> bool
     ensures { result ≡ locked address control }
 {
@@ -80,6 +86,7 @@ fn locked(address: u8, control: u8) -> bool
 }
 
 // A write is ignored.
+#[tactic(auto, unfolding(crate::specs::Access::ignores))]
 pub fn ignores(address: u8, value: u8, gate: Gate) -> bool
     ensures { result ≡ ignores address value gate }
 {
@@ -99,6 +106,7 @@ pub fn ignores(address: u8, value: u8, gate: Gate) -> bool
 }
 
 // A write begins a stored write.
+#[tactic(auto, unfolding(crate::specs::Access::begins))]
 pub fn begins(address: u8, value: u8, gate: Gate, running: bool) -> bool
     ensures { result ≡ begins address value gate running }
 {
@@ -112,6 +120,7 @@ pub fn begins(address: u8, value: u8, gate: Gate, running: bool) -> bool
 }
 
 // A read is withheld.
+#[tactic(auto, unfolding(crate::specs::Access::withheld, crate::specs::Access::unreadable))]
 pub fn withheld(address: u8, gate: Gate) -> bool
     ensures { result ≡ withheld address gate }
 {

@@ -33,6 +33,7 @@ pub fn code_high(code: i16) -> u8
 }
 
 // The range in millionths of g that the two bits of `range` choose.
+#[tactic(auto, unfolding(crate::specs::Codes::range_g))]
 fn divisor(range: u8) -> i64
     ensures { result ≡ pos (range_g range * 1000000) }
 {
@@ -44,6 +45,7 @@ fn divisor(range: u8) -> i64
 }
 
 // A quotient clamped to the ten bits of a code.
+#[tactic(auto, unfolding(crate::specs::Codes::held))]
 fn hold_code(z: i64) -> i16
     ensures { result ≡ held (negsuc 511) (pos 511) z }
 {
@@ -57,6 +59,7 @@ fn hold_code(z: i64) -> i16
 }
 
 // The code of an acceleration in millionths of g. From a million g on it is a limit, and the product could overflow.
+#[tactic(auto, unfolding(crate::specs::Codes::code))]
 pub fn code(acceleration: i64, offset: u16, range: u8) -> i16
     ensures { result ≡ code acceleration offset range }
 {
@@ -71,6 +74,7 @@ pub fn code(acceleration: i64, offset: u16, range: u8) -> i16
 }
 
 // A quotient clamped to a byte.
+#[tactic(auto, unfolding(crate::specs::Codes::held))]
 fn hold_byte(z: i64) -> u8
     ensures { result ≡ nat_abs (held (pos 0) (pos 255) z) }
 {
@@ -84,6 +88,7 @@ fn hold_byte(z: i64) -> u8
 }
 
 // The temperature register of thousandths of a degree.
+#[tactic(auto, unfolding(crate::specs::Codes::temperature))]
 pub fn temperature(millicelsius: i32) -> u8
     ensures { result ≡ temperature millicelsius }
 {

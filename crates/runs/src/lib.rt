@@ -1,1 +1,2 @@
 // No code: lists of calls, the write book and demand 3, in specs/.
+#![tactic(auto)]

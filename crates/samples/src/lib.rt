@@ -1,4 +1,6 @@
 // Next due, and samples up to a moment.
+#![tactic(auto)]
+
 ghost use Rattle.std.specs.Prelude.{◌≡◌};
 ghost use Rattle.samples.specs.Samples as S;
 

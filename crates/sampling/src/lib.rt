@@ -1,4 +1,6 @@
 // Sample phases (devices/bma150.rs: `sample_phase` and the loop of `sync_local_until`).
+#![tactic(auto)]
+
 pub mod phase;
 mod split;
 mod stage;

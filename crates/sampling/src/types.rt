@@ -5,7 +5,7 @@ use interrupts::Interrupts;
 use time::Clock;
 
 // The acceleration in millionths of g and the temperature in thousandths of a degree, as last set.
-#[derive(Drop)]
+#[derive(Clone, Copy)]
 pub struct Input {
     pub x: i32,
     pub y: i32,
@@ -14,14 +14,14 @@ pub struct Input {
 }
 
 // The self test, and how many phases it still lasts (the Rust's `test_phases`).
-#[derive(Drop)]
+#[derive(Clone, Copy)]
 pub enum Test {
     Off,
     Phases(u8),
 }
 
 // `means` says of each axis whether the value that it shows is the mean of a full window or a single code.
-#[derive(Drop)]
+#[derive(Clone, Copy)]
 pub struct Sampling {
     pub filter: Filter,
     pub filtered: [i16; 3],
@@ -35,7 +35,7 @@ pub struct Sampling {
 }
 
 // The part of the sensor that a sample phase changes.
-#[derive(Drop)]
+#[derive(Clone, Copy)]
 pub struct Acquisition {
     pub registers: [u8; 62],
     pub sampling: Sampling,
@@ -43,7 +43,7 @@ pub struct Acquisition {
 }
 
 // An acquisition without its registers and its filter's history, which are lent beside it.
-#[derive(Drop)]
+#[derive(Clone, Copy)]
 pub(crate) struct AcquisitionScalars {
     pub(crate) places: RingState,
     pub(crate) filtered: [i16; 3],

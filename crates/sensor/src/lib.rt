@@ -1,5 +1,7 @@
 // The sensor record and what happens to it as a whole: image, acquisition, automatic mode, soft reset, reads, select
 // (devices/bma150.rs, bma150/control.rs).
+#![tactic(auto)]
+
 pub mod image;
 pub mod mode;
 pub mod record;

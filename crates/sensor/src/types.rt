@@ -8,19 +8,19 @@ use sampling::types::{Input, Sampling};
 use spi::types::{Frame, Sent};
 
 // A stored write that runs: when it began, the address and the wanted byte.
-#[derive(Drop)]
+#[derive(Clone, Copy)]
 pub enum Operation {
     Idle,
     Running(WriteCycle, u8, u8),
 }
 
-#[derive(Drop)]
+#[derive(Clone, Copy)]
 pub struct Writing {
     pub operation: Operation,
 }
 
 // Since when the supply is below 2400 mV, and whether it met 0 mV.
-#[derive(Drop)]
+#[derive(Clone, Copy)]
 pub struct Supply {
     pub unpowered_since: Deadline,
     pub cold: bool,
@@ -28,13 +28,13 @@ pub struct Supply {
 
 // What a loss of supply leaves alone beside the stored bytes: acceleration and temperature, and the levels of the I2C lines
 // after the last accepted pin report. A start sets it anew.
-#[derive(Drop)]
+#[derive(Clone, Copy)]
 pub struct Kept {
     pub input: Input,
     pub lines: Levels,
 }
 
-#[derive(Drop)]
+#[derive(Clone, Copy)]
 pub struct Sensor {
     pub registers: [u8; 62],
     pub nonvolatile: [u8; 19],
@@ -50,14 +50,14 @@ pub struct Sensor {
 }
 
 // The byte that a register shows, or its absence.
-#[derive(Drop)]
+#[derive(Clone, Copy)]
 pub enum View {
     Byte(u8),
     Withheld,
 }
 
 // Whether the value of an acceleration is the mean of a full window or a single code, where a view shows one.
-#[derive(Drop)]
+#[derive(Clone, Copy)]
 pub enum Mark {
     Mean,
     Single,
@@ -65,14 +65,14 @@ pub enum Mark {
 }
 
 // What a view answers.
-#[derive(Drop)]
+#[derive(Clone, Copy)]
 pub struct Viewed {
     pub view: View,
     pub mark: Mark,
 }
 
 // A byte fetched to be sent.
-#[derive(Drop)]
+#[derive(Clone, Copy)]
 pub struct Fetched {
     pub sensor: Sensor,
     pub sent: Sent,

@@ -6,6 +6,7 @@ use crate::types::{Clocked, Drive, FirstBit, Frame, Sent, Serial, Shift, Taken, 
 use laws::{sent_bit, shifted_in};
 
 // Whether two levels differ.
+#[tactic(auto, unfolding(crate::specs::Frame::differs))]
 fn differs(was: bool, selected: bool) -> bool
     ensures { result ≡ F.differs was selected }
 {
@@ -15,6 +16,7 @@ fn differs(was: bool, selected: bool) -> bool
     selected
 }
 
+#[tactic(auto, unfolding(crate::specs::Frame::reads))]
 fn reads(serial: Serial) -> bool
     ensures { result ≡ F.reads serial }
 {
@@ -25,6 +27,7 @@ fn reads(serial: Serial) -> bool
     }
 }
 
+#[tactic(auto, unfolding(crate::specs::Frame::first_bit))]
 fn first_bit_of(serial: Serial, bits: u8) -> FirstBit
     ensures { result ≡ F.first_bit serial bits }
 {
@@ -40,6 +43,7 @@ fn first_bit_of(serial: Serial, bits: u8) -> FirstBit
     }
 }
 
+#[tactic(auto, unfolding(crate::specs::Frame::moves))]
 fn moves(at: Clocked, four_wire: bool, turnaround: bool) -> bool
     ensures { result ≡ F.moves at four_wire turnaround }
 {
@@ -55,6 +59,7 @@ fn moves(at: Clocked, four_wire: bool, turnaround: bool) -> bool
     }
 }
 
+#[tactic(auto, unfolding(crate::specs::Frame::fetches))]
 fn fetches(serial: Serial, n: u8) -> Shift
     ensures { result ≡ F.fetches serial n }
 {
@@ -70,6 +75,7 @@ fn fetches(serial: Serial, n: u8) -> Shift
     }
 }
 
+#[tactic(auto, unfolding(crate::specs::Frame::bit_drive))]
 fn drive(byte: u8, n: u8) -> Drive
     ensures { result ≡ F.bit_drive byte n }
 {
@@ -79,6 +85,7 @@ fn drive(byte: u8, n: u8) -> Drive
     Drive::Low
 }
 
+#[tactic(auto, unfolding(crate::specs::Frame::level))]
 fn level(tx: Sent, selected: bool, n: u8) -> Drive
     ensures { result ≡ F.level tx selected n }
 {
@@ -95,6 +102,7 @@ fn level(tx: Sent, selected: bool, n: u8) -> Drive
     }
 }
 
+#[tactic(auto, unfolding(crate::specs::Frame::next_bit))]
 fn next_bit(n: u8) -> u8
     ensures { result ≡ F.next_bit n }
 {
@@ -129,6 +137,7 @@ impl Frame {
     }
 
     // The select pin has this level.
+    #[tactic(auto, unfolding(crate::specs::Frame::select))]
     pub fn select(self, selected: bool) -> Frame
         ensures { result ≡ F.select self selected }
     {
@@ -198,6 +207,7 @@ impl Frame {
         }
     }
 
+    #[tactic(auto, unfolding(crate::specs::Frame::addressed))]
     fn addressed(self, byte: u8, four_wire: bool) -> Frame
         ensures { result ≡ F.addressed self byte four_wire }
     {
@@ -207,6 +217,7 @@ impl Frame {
         self.next_read(byte % 128, !four_wire)
     }
 
+    #[tactic(auto, unfolding(crate::specs::Frame::completed))]
     fn completed(self, byte: u8, four_wire: bool) -> Taken
         ensures { result ≡ F.completed self.serial self byte four_wire }
     {
@@ -237,6 +248,7 @@ impl Frame {
     }
 
     // A rise outside a turnaround takes a bit.
+    #[tactic(auto, unfolding(crate::specs::Frame::take_bit))]
     pub fn take_bit(self, mosi: bool, four_wire: bool) -> Taken
         ensures { result ≡ F.take_bit self mosi four_wire }
     {
@@ -251,6 +263,7 @@ impl Frame {
     }
 
     // What the output does at this edge, with the wire mode as it is now.
+    #[tactic(auto, unfolding(crate::specs::Frame::shifts))]
     pub fn shifts(self, at: Clocked, four_wire: bool) -> Shift
         ensures { result ≡ F.shifts self at four_wire }
     {
@@ -304,6 +317,7 @@ impl Frame {
     }
 
     // The output moves on, with the byte now being sent.
+    #[tactic(auto, unfolding(crate::specs::Frame::moved))]
     pub fn shifted(self, tx: Sent) -> Frame
         ensures { result ≡ F.shifted self tx }
     {
@@ -341,6 +355,7 @@ impl Frame {
     }
 
     // Whether a rise uses converted values, so that a sample at the same moment comes first.
+    #[tactic(auto, unfolding(crate::specs::Frame::consumes_at_rise))]
     pub fn consumes_at_rise(self) -> bool
         ensures { result ≡ F.consumes_at_rise self }
     {
@@ -358,6 +373,7 @@ impl Frame {
     }
 
     // Whether a fall does.
+    #[tactic(auto, unfolding(crate::specs::Frame::consumes_at_fall))]
     pub fn consumes_at_fall(self, four_wire: bool) -> bool
         ensures { result ≡ F.consumes_at_fall self four_wire }
     {

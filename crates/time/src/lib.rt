@@ -1,4 +1,6 @@
 // Moments, lengths of time and the 12000 Hz clock (time.rs).
+#![tactic(auto)]
+
 ghost use Rattle.std.specs.Prelude.{◌≡◌, ◌+◌, ◌-◌, ◌*◌, ◌/◌, ◌^◌, ◌<◌, min};
 ghost use Rattle.time.specs.Time as T;
 ghost use Rattle.time.specs.Clock as C;
@@ -6,15 +8,15 @@ ghost use Rattle.time.specs.Clock as C;
 use std::num::wrapping_add_u64;
 
 // A moment: whole seconds and a fraction in units of 2^-64 s.
-#[derive(Drop)]
+#[derive(Clone, Copy)]
 pub struct Time(pub u64, pub u64);
 
 // A length of time: whole seconds and a fraction in units of 2^-64 s.
-#[derive(Drop)]
+#[derive(Clone, Copy)]
 pub struct Duration(pub u64, pub u64);
 
 // The clock that samples: its start, and the number of the last edge that it advanced to.
-#[derive(Drop)]
+#[derive(Clone, Copy)]
 pub struct Clock {
     pub start: Time,
     pub ordinal: u64,

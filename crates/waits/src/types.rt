@@ -2,14 +2,14 @@
 use sensor::types::Sensor;
 
 // A stored write that ended: completed, or cut, with its address and byte.
-#[derive(Drop)]
+#[derive(Clone, Copy)]
 pub enum Report {
     Nothing,
     Completed(u8, u8),
     Cut(u8, u8),
 }
 
-#[derive(Drop)]
+#[derive(Clone, Copy)]
 pub struct Served {
     pub sensor: Sensor,
     pub report: Report,
