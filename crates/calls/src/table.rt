@@ -73,6 +73,7 @@ fn reporting(now: Time, before: Levels) -> Facts
     }
 }
 
+#[tactic(auto, unfolding(crate::specs::Facts::timed_facts))]
 fn timed_facts(now: Time, t: Timed) -> Facts
     ensures { result ≡ F.timed_facts now t }
 {
@@ -86,6 +87,7 @@ fn timed_facts(now: Time, t: Timed) -> Facts
     }
 }
 
+#[tactic(auto, unfolding(crate::specs::Facts::facts))]
 fn facts(c: Call) -> Facts
     ensures { result ≡ F.facts c }
 {
@@ -99,6 +101,7 @@ fn facts(c: Call) -> Facts
 }
 
 // 1.
+#[tactic(auto, unfolding(crate::specs::Table::wrong_length))]
 fn wrong_length(b: Bytes) -> bool
     ensures { result ≡ Table.wrong_length b }
 {
@@ -108,6 +111,7 @@ fn wrong_length(b: Bytes) -> bool
     }
 }
 
+#[tactic(auto, unfolding(crate::specs::Table::late))]
 fn late(now: Time) -> bool
     ensures { result ≡ Table.late now }
 {
@@ -115,6 +119,7 @@ fn late(now: Time) -> bool
 }
 
 // 3.
+#[tactic(auto, unfolding(crate::specs::Table::too_late))]
 fn too_late(t: Dated) -> bool
     ensures { result ≡ Table.too_late t }
 {
@@ -125,6 +130,7 @@ fn too_late(t: Dated) -> bool
 }
 
 // 4.
+#[tactic(auto, unfolding(crate::specs::Table::goes_back))]
 fn goes_back(last: Time, t: Dated) -> bool
     ensures { result ≡ Table.goes_back last t }
 {
@@ -134,6 +140,7 @@ fn goes_back(last: Time, t: Dated) -> bool
     }
 }
 
+#[tactic(auto, unfolding(crate::specs::Table::beyond))]
 fn beyond(axis: i32) -> bool
     ensures { result ≡ Table.beyond axis }
 {
@@ -143,6 +150,7 @@ fn beyond(axis: i32) -> bool
     axis < -1000000000
 }
 
+#[tactic(auto, unfolding(crate::specs::Table::any_beyond))]
 fn any_beyond(x: i32, y: i32, z: i32) -> bool
     ensures { result ≡ Table.any_beyond x y z }
 {
@@ -156,6 +164,7 @@ fn any_beyond(x: i32, y: i32, z: i32) -> bool
 }
 
 // 2.
+#[tactic(auto, unfolding(crate::specs::Table::out_of_range))]
 fn out_of_range(a: Axes) -> bool
     ensures { result ≡ Table.out_of_range a }
 {
@@ -175,6 +184,7 @@ fn same_levels(a: Levels, b: Levels) -> bool
 }
 
 // 8.
+#[tactic(auto, unfolding(crate::specs::Table::jumps))]
 fn jumps(lines: Levels, l: Lines) -> bool
     ensures { result ≡ Table.jumps lines l }
 {
@@ -184,6 +194,7 @@ fn jumps(lines: Levels, l: Lines) -> bool
     }
 }
 
+#[tactic(auto, unfolding(crate::specs::Table::due_by))]
 fn due_by(due: Deadline, t: Dated) -> bool
     ensures { result ≡ Table.due_by due t }
 {
@@ -193,6 +204,7 @@ fn due_by(due: Deadline, t: Dated) -> bool
     }
 }
 
+#[tactic(auto, unfolding(crate::specs::Table::due_at))]
 fn due_at(due: Deadline, t: Dated) -> bool
     ensures { result ≡ Table.due_at due t }
 {
@@ -203,6 +215,7 @@ fn due_at(due: Deadline, t: Dated) -> bool
 }
 
 // 5.
+#[tactic(auto, unfolding(crate::specs::Table::before_due))]
 fn before_due(due: Deadline, kind: Kind, t: Dated) -> bool
     ensures { result ≡ Table.before_due due kind t }
 {
@@ -214,6 +227,7 @@ fn before_due(due: Deadline, kind: Kind, t: Dated) -> bool
 }
 
 // 6.
+#[tactic(auto, unfolding(crate::specs::Table::beside_due))]
 fn beside_due(due: Deadline, kind: Kind, t: Dated) -> bool
     ensures { result ≡ Table.beside_due due kind t }
 {
@@ -225,6 +239,7 @@ fn beside_due(due: Deadline, kind: Kind, t: Dated) -> bool
 }
 
 // The refusal of a call on a sensor with this last accepted time, next due and levels after the last accepted pin report.
+#[tactic(auto, unfolding(crate::specs::Table::number, crate::specs::Table::refusal, crate::specs::Table::refusal_number, crate::specs::Table::first_found))]
 pub fn refusal(last: Time, due: Deadline, lines: Levels, c: Call) -> Outcome
     ensures { Table.number result ≡ Table.refusal last due lines c }
 {
@@ -259,6 +274,7 @@ pub fn refusal(last: Time, due: Deadline, lines: Levels, c: Call) -> Outcome
 }
 
 // A byte of register 14 with a code that is reserved.
+#[tactic(auto, unfolding(crate::specs::Table::reserved))]
 fn reserved(measurement: u8) -> bool
     ensures { result ≡ Table.reserved measurement }
 {
@@ -269,6 +285,7 @@ fn reserved(measurement: u8) -> bool
 }
 
 // 9.
+#[tactic(auto, unfolding(crate::specs::Table::turned_down))]
 fn turned_down(by: Starting, measurement: u8) -> bool
     ensures { result ≡ Table.turned_down by measurement }
 {
@@ -279,6 +296,7 @@ fn turned_down(by: Starting, measurement: u8) -> bool
 }
 
 // The refusal of a start with an image of this length and this byte of register 14.
+#[tactic(auto, unfolding(crate::specs::Table::number, crate::specs::Table::start_refusal, crate::specs::Table::refusal_number, crate::specs::Table::first_found))]
 pub fn start_refusal(by: Starting, now: Time, length: usize, measurement: u8) -> Outcome
     ensures { Table.number result ≡ Table.start_refusal by now length measurement }
 {
@@ -295,6 +313,7 @@ pub fn start_refusal(by: Starting, now: Time, length: usize, measurement: u8) ->
 }
 
 // Whether a call is accepted.
+#[tactic(auto, unfolding(crate::specs::Table::number))]
 pub fn is_accepted(outcome: Outcome) -> bool
     ensures { result ≡ eqb (Table.number outcome) 0 }
 {

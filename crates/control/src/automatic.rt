@@ -3,6 +3,7 @@ ghost use Rattle.std.specs.Prelude.{◌≡◌};
 ghost use Rattle.control.specs.Automatic as Automatic;
 
 // The interrupt pin is held: a new criterion, not latched.
+#[tactic(auto, unfolding(crate::specs::Automatic::holds))]
 pub fn holds(was_criterion: bool, latch: bool, criterion: bool) -> bool
     ensures { result ≡ Automatic.holds was_criterion latch criterion }
 {
@@ -16,6 +17,7 @@ pub fn holds(was_criterion: bool, latch: bool, criterion: bool) -> bool
 }
 
 // A sleep that no pause ends: the pause begins now.
+#[tactic(auto, unfolding(crate::specs::Automatic::pauses_again))]
 pub fn pauses_again(asleep: bool, pause_set: bool) -> bool
     ensures { result ≡ Automatic.pauses_again asleep pause_set }
 {
@@ -40,6 +42,7 @@ pub struct Activity {
 }
 
 // The sensor may pause.
+#[tactic(auto, unfolding(crate::specs::Automatic::may_pause))]
 pub fn may_pause(verify: bool, does: Activity) -> bool
     ensures { result ≡ Automatic.may_pause verify does }
 {

@@ -10,6 +10,7 @@ use registers::fields::{
 };
 
 // A write of 0a that is taken.
+#[tactic(auto, unfolding(crate::specs::Kinds::written_control))]
 fn written_control(value: u8) -> WriteKind
     ensures { result ≡ Kinds.written_control value }
 {
@@ -20,6 +21,7 @@ fn written_control(value: u8) -> WriteKind
 }
 
 // A write of a register that is taken.
+#[tactic(auto, unfolding(crate::specs::Kinds::written_register))]
 fn written_register(address: u8, value: u8) -> WriteKind
     ensures { result ≡ Kinds.written_register address value }
 {
@@ -43,6 +45,7 @@ fn written_register(address: u8, value: u8) -> WriteKind
 }
 
 // What a write does; `running`: a stored write runs.
+#[tactic(auto, unfolding(crate::specs::Kinds::kind_of_write))]
 pub fn kind_of_write(address: u8, value: u8, gate: Gate, running: bool) -> WriteKind
     ensures { result ≡ Kinds.kind_of_write address value gate running }
 {
@@ -73,6 +76,7 @@ pub fn resets_interrupts(value: u8) -> bool
 }
 
 // A write of 0a starts or stops the self test.
+#[tactic(auto, unfolding(crate::specs::Kinds::self_test))]
 pub fn self_test(old: u8, value: u8) -> SelfTest
     ensures { result ≡ Kinds.self_test old value }
 {
@@ -86,6 +90,7 @@ pub fn self_test(old: u8, value: u8) -> SelfTest
 }
 
 // A write of 0a wakes the sensor or puts it to sleep.
+#[tactic(auto, unfolding(crate::specs::Kinds::sleep))]
 pub fn sleep(asleep: bool, value: u8) -> Sleep
     ensures { result ≡ Kinds.sleep asleep value }
 {

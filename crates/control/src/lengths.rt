@@ -21,6 +21,7 @@ pub fn acquisition_delay(ready: Duration) -> Duration
 }
 
 // The cycles from a wake to valid samples, by the filter's window.
+#[tactic(auto, unfolding(crate::specs::Lengths::acquisition_cycles))]
 pub fn acquisition_cycles(window: u8) -> u16
     ensures { result ≡ Lengths.acquisition_cycles window }
 {

@@ -26,6 +26,7 @@ pub struct Deadlines {
 
 impl Deadline {
     // Whether there is one.
+    #[tactic(auto, unfolding(crate::specs::Deadlines::is_set))]
     pub fn is_set(self) -> bool
         ensures { result ≡ D.is_set self }
     {
@@ -36,6 +37,7 @@ impl Deadline {
     }
 
     // Whether it is at this moment.
+    #[tactic(auto, unfolding(crate::specs::Deadlines::is_at))]
     pub fn is_at(self, now: Time) -> bool
         ensures { result ≡ D.is_at self now }
     {
@@ -46,6 +48,7 @@ impl Deadline {
     }
 
     // Whether it is at this moment or before it.
+    #[tactic(auto, unfolding(crate::specs::Deadlines::is_by))]
     pub fn is_by(self, now: Time) -> bool
         ensures { result ≡ D.is_by self now }
     {
@@ -56,6 +59,7 @@ impl Deadline {
     }
 
     // The earlier of two.
+    #[tactic(auto, unfolding(crate::specs::Deadlines::sooner))]
     pub fn sooner(self, other: Deadline) -> Deadline
         ensures { result ≡ D.sooner self other }
     {
@@ -74,6 +78,7 @@ impl Deadline {
     }
 
     // None where it is at this moment, else itself.
+    #[tactic(auto, unfolding(crate::specs::Deadlines::unless_at))]
     pub fn unless_at(self, now: Time) -> Deadline
         ensures { result ≡ D.unless_at self now }
     {
@@ -84,6 +89,7 @@ impl Deadline {
     }
 
     // Later by a length, where it is set.
+    #[tactic(auto, unfolding(crate::specs::Deadlines::later))]
     pub fn later(self, by: Duration) -> Deadline
         ensures { result ≡ D.later self by }
     {
@@ -218,6 +224,7 @@ impl Deadlines {
     }
 
     // The earliest of these, of the next sample and of the end of a stored write.
+    #[tactic(auto, unfolding(crate::specs::Deadlines::earliest, crate::specs::Deadlines::first))]
     pub fn earliest(self, sample: Deadline, write: Deadline) -> Deadline
         ensures { result ≡ D.earliest self sample write }
     {

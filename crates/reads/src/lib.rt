@@ -24,6 +24,7 @@ pub struct Prepared {
 }
 
 // Whether an address is that of an acceleration.
+#[tactic(auto, unfolding(crate::specs::Reads::is_acceleration))]
 pub fn is_acceleration(address: u8) -> bool
     ensures { result ≡ R.is_acceleration address }
 {
@@ -44,6 +45,7 @@ pub fn axis_of(address: u8) -> u8
 }
 
 // Whether an acceleration's byte comes from a pair.
+#[tactic(auto, unfolding(crate::specs::Reads::is_shadowed))]
 fn is_shadowed(address: u8, shadowing: bool) -> bool
     ensures { result ≡ R.is_shadowed address shadowing }
 {
@@ -101,6 +103,7 @@ impl Reads {
     }
 
     // The held pair of an axis, else the bytes of its registers.
+    #[tactic(auto, unfolding(crate::specs::Reads::pair))]
     fn pair(self, axis: u8, low: u8, high: u8) -> [u8; 2]
         requires { axis < 3 }
         ensures { result ≡ R.pair self axis low high }
@@ -128,6 +131,7 @@ impl Reads {
     }
 
     // The high byte of the held pair, else the last one of the axis.
+    #[tactic(auto, unfolding(crate::specs::Reads::high_byte))]
     fn high_byte(self, axis: u8) -> u8
         requires { axis < 3 }
         ensures { result ≡ R.high_byte self axis }
@@ -148,6 +152,7 @@ impl Reads {
     }
 
     // The byte to send for a register that shows `viewed`; `low` and `high` are the registers of the address's axis.
+    #[tactic(auto, unfolding(crate::specs::Reads::prepared, crate::specs::Reads::high_byte))]
     pub fn prepare(self, address: u8, viewed: u8, low: u8, high: u8, shadowing: bool) -> Prepared
         ensures { result ≡ R.prepared self address viewed low high shadowing }
     {
@@ -192,6 +197,7 @@ impl Reads {
     }
 
     // The first bit of the byte `sent` was taken.
+    #[tactic(auto, unfolding(crate::specs::Reads::read_began))]
     pub fn read_began(self, address: u8, sent: u8) -> Reads
         ensures { result ≡ R.read_began self address sent }
     {

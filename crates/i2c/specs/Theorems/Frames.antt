@@ -226,7 +226,7 @@ unfolding acknowledged bytes_answer register_after seen left
 bytes_served {v} {p} h [] fs = record { to = v; serves = record { is_seen = refl; is_left = refl }; fetches = h }
 bytes_served {v} {p} h (o ∷ os) fs =
     let one = byte_served h o false fs in
-    let rest = bytes_served (acknowledged_fetches (next_register p) (now_shown fs p)) os (drop 18 fs) in
+    let rest = bytes_served {v = at (P.MasterAcknowledge (answer false)) (next_register p) 0 0 false (now_shown fs p)} (acknowledged_fetches (next_register p) (now_shown fs p)) os (drop 18 fs) in
     record { to = rest.to; serves = and_serves one rest.serves; fetches = rest.fetches }
 
 drop_over : (n : ℕ) (fs : Shown) → drop (18 + n) fs ≡ drop n (drop 18 fs)

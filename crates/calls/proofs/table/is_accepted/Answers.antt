@@ -1,0 +1,9 @@
+use Rattle.calls.specs.Theorems.Values.{refused_number}
+use Rattle.calls.specs.Table.{number}
+use mathlib.Core.Path.{sym}
+use borrow.Author.Rules.{rules}
+use Rattle.calls.proofs.table.is_accepted.Goals as goal
+
+pub returns-in-Refused : goal.returns-in-Refused
+unfolding number
+returns-in-Refused c = rw c.in-Refused.is (sym (refused_number _))

@@ -1,0 +1,12 @@
+use borrow.Author.Tests.{not-true, not-false}
+use Rattle.reads.specs.Theorems.Pairs.{axis_lt}
+use Rattle.reads.specs.Reads.{read_began}
+use mathlib.Core.Path.{sym, ◌∙◌}
+use borrow.Author.Rules.{rules}
+use Rattle.reads.proofs.Reads.read_began.Goals as goal
+
+pub hold-requires : goal.hold-requires
+hold-requires c = rw c.axis_of-axis.ensures (axis_lt _ _ (sym c.is_shadowed.ensures ∙ c.if-not-is_shadowed.false))
+
+pub finish-requires : goal.finish-requires
+finish-requires c = rw c.axis_of-axis.ensures (axis_lt _ _ (sym c.is_shadowed.ensures ∙ c.if-not-is_shadowed.false))
