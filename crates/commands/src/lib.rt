@@ -37,6 +37,7 @@ fn number(input: &[u8], at: usize, n: usize) -> u64
 }
 
 // Two's complement in 32 bits.
+#[tactic(auto, unfolding(crate::specs::Decode::signed))]
 fn signed(x: u64) -> i32
     requires { x < 4294967296 }
     ensures { result ≡ D.signed x }
@@ -48,6 +49,7 @@ fn signed(x: u64) -> i32
 }
 
 // T: 4 bytes of seconds and 8 of fraction.
+#[tactic(auto, unfolding(crate::specs::Decode::moment_at))]
 fn moment(input: &[u8], at: usize) -> Time
     requires { at + 12 ≤ length input.now }
     ensures { result ≡ D.moment_at at input.now }
@@ -57,6 +59,7 @@ fn moment(input: &[u8], at: usize) -> Time
     Time(seconds, fraction)
 }
 
+#[tactic(auto, unfolding(crate::specs::Decode::bit))]
 fn bit(b: u8, weight: u8) -> bool
     requires { 0 < weight }
     ensures { result ≡ D.bit b weight }
@@ -75,6 +78,7 @@ fn levels(b: u8, scl: u8, sda: u8) -> Levels
     }
 }
 
+#[tactic(auto, unfolding(crate::specs::Decode::start))]
 fn start(by: Starting, input: &[u8], at: usize) -> Command
     requires { at ≤ length input.now }
     ensures { result ≡ D.start by (drop at input.now) }
@@ -86,6 +90,7 @@ fn start(by: Starting, input: &[u8], at: usize) -> Command
     Command::Start(by, t)
 }
 
+#[tactic(auto, unfolding(crate::specs::Decode::accelerations))]
 fn accelerations(input: &[u8], at: usize) -> Command
     requires { at ≤ length input.now }
     ensures { result ≡ D.accelerations (drop at input.now) }
@@ -100,6 +105,7 @@ fn accelerations(input: &[u8], at: usize) -> Command
     Command::Host(Call::At(t, Timed::Accelerations(signed(x), signed(y), signed(z))))
 }
 
+#[tactic(auto, unfolding(crate::specs::Decode::temperature))]
 fn temperature(input: &[u8], at: usize) -> Command
     requires { at ≤ length input.now }
     ensures { result ≡ D.temperature (drop at input.now) }
@@ -111,6 +117,7 @@ fn temperature(input: &[u8], at: usize) -> Command
     Command::Host(Call::Temperature(signed(x)))
 }
 
+#[tactic(auto, unfolding(crate::specs::Decode::supply))]
 fn supply(input: &[u8], at: usize) -> Command
     requires { at ≤ length input.now }
     ensures { result ≡ D.supply (drop at input.now) }
@@ -123,6 +130,7 @@ fn supply(input: &[u8], at: usize) -> Command
     Command::Host(Call::At(t, Timed::Supply(rail as u16)))
 }
 
+#[tactic(auto, unfolding(crate::specs::Decode::due))]
 fn due(input: &[u8], at: usize) -> Command
     requires { at ≤ length input.now }
     ensures { result ≡ D.due (drop at input.now) }
@@ -134,6 +142,7 @@ fn due(input: &[u8], at: usize) -> Command
     Command::Host(Call::At(t, Timed::Due))
 }
 
+#[tactic(auto, unfolding(crate::specs::Decode::select))]
 fn select(input: &[u8], at: usize) -> Command
     requires { at ≤ length input.now }
     ensures { result ≡ D.select (drop at input.now) }
@@ -151,6 +160,7 @@ fn select(input: &[u8], at: usize) -> Command
     Command::Bad
 }
 
+#[tactic(auto, unfolding(crate::specs::Decode::rising))]
 fn rising(input: &[u8], at: usize) -> Command
     requires { at ≤ length input.now }
     ensures { result ≡ D.rising (drop at input.now) }
@@ -169,6 +179,7 @@ fn rising(input: &[u8], at: usize) -> Command
     Command::Bad
 }
 
+#[tactic(auto, unfolding(crate::specs::Decode::falling))]
 fn falling(input: &[u8], at: usize) -> Command
     requires { at ≤ length input.now }
     ensures { result ≡ D.falling (drop at input.now) }
@@ -180,6 +191,7 @@ fn falling(input: &[u8], at: usize) -> Command
     Command::Host(Call::At(t, Timed::Falling))
 }
 
+#[tactic(auto, unfolding(crate::specs::Decode::pins))]
 fn pins(input: &[u8], at: usize) -> Command
     requires { at ≤ length input.now }
     ensures { result ≡ D.pins (drop at input.now) }
@@ -195,6 +207,7 @@ fn pins(input: &[u8], at: usize) -> Command
     Command::Host(Call::At(t, Timed::Pins(levels(b, 8, 4), levels(b, 2, 1))))
 }
 
+#[tactic(auto, unfolding(crate::specs::Decode::stored_image))]
 fn stored_image(input: &[u8], at: usize) -> Command
     requires { at ≤ length input.now }
     ensures { result ≡ D.stored_image (drop at input.now) }
@@ -206,6 +219,7 @@ fn stored_image(input: &[u8], at: usize) -> Command
     Command::Host(Call::StoredImage(t, 19))
 }
 
+#[tactic(auto, unfolding(crate::specs::Decode::view))]
 fn view(input: &[u8], at: usize) -> Command
     requires { at ≤ length input.now }
     ensures { result ≡ D.view (drop at input.now) }
@@ -217,6 +231,7 @@ fn view(input: &[u8], at: usize) -> Command
 }
 
 // Commands from 0c on; no other byte begins a command.
+#[tactic(auto, unfolding(crate::specs::Decode::decode_from_0c))]
 fn decode_from_0c(c: u8, input: &[u8], at: usize) -> Command
     requires { at ≤ length input.now }
     ensures { result ≡ D.decode_from_0c c (drop at input.now) }
@@ -228,6 +243,7 @@ fn decode_from_0c(c: u8, input: &[u8], at: usize) -> Command
 }
 
 // Commands 06 to 0b; another byte goes to `decode_from_0c`.
+#[tactic(auto, unfolding(crate::specs::Decode::decode_06_to_0b))]
 fn decode_06_to_0b(c: u8, input: &[u8], at: usize) -> Command
     requires { at ≤ length input.now }
     ensures { result ≡ D.decode_06_to_0b c (drop at input.now) }
@@ -254,6 +270,7 @@ fn decode_06_to_0b(c: u8, input: &[u8], at: usize) -> Command
 }
 
 // Commands 01 to 05; another byte goes to `decode_06_to_0b`.
+#[tactic(auto, unfolding(crate::specs::Decode::decode_01_to_05))]
 fn decode_01_to_05(c: u8, input: &[u8], at: usize) -> Command
     requires { at ≤ length input.now }
     ensures { result ≡ D.decode_01_to_05 c (drop at input.now) }
@@ -277,6 +294,7 @@ fn decode_01_to_05(c: u8, input: &[u8], at: usize) -> Command
 }
 
 // The command that stands at `at`; beyond the input there is none.
+#[tactic(auto, unfolding(crate::specs::Decode::decoded))]
 pub fn decode(input: &[u8], at: usize) -> Command
     ensures { result ≡ D.decoded (drop at input.now) }
 {
@@ -287,6 +305,7 @@ pub fn decode(input: &[u8], at: usize) -> Command
 }
 
 // How many bytes the command of a timed call is.
+#[tactic(auto, unfolding(crate::specs::Decode::timed_size))]
 fn timed_size(t: Timed) -> usize
     ensures { result ≡ D.timed_size t }
 {
@@ -301,6 +320,7 @@ fn timed_size(t: Timed) -> usize
 }
 
 // How many bytes the command of a call is.
+#[tactic(auto, unfolding(crate::specs::Decode::call_size))]
 fn call_size(c: Call) -> usize
     ensures { result ≡ D.call_size c }
 {
@@ -314,6 +334,7 @@ fn call_size(c: Call) -> usize
 }
 
 // How many bytes a command is; a bad one takes its first.
+#[tactic(auto, unfolding(crate::specs::Decode::size))]
 pub fn size(c: Command) -> usize
     ensures { result ≡ D.size c }
 {
@@ -325,6 +346,7 @@ pub fn size(c: Command) -> usize
 }
 
 // Whether a command is refused with number 7.
+#[tactic(auto, unfolding(crate::specs::Decode::is_bad))]
 pub fn is_bad(c: Command) -> bool
     ensures { result ≡ D.is_bad c }
 {
@@ -335,6 +357,7 @@ pub fn is_bad(c: Command) -> bool
     }
 }
 
+#[tactic(auto, unfolding(crate::specs::Decode::wants_from_0c))]
 fn wants_from_0c(c: u8) -> usize
     ensures { result ≡ D.wants_from_0c c }
 {
@@ -344,6 +367,7 @@ fn wants_from_0c(c: u8) -> usize
     1
 }
 
+#[tactic(auto, unfolding(crate::specs::Decode::wants_06_to_0b))]
 fn wants_06_to_0b(c: u8) -> usize
     ensures { result ≡ D.wants_06_to_0b c }
 {
@@ -369,6 +393,7 @@ fn wants_06_to_0b(c: u8) -> usize
 }
 
 // How many bytes a command has that begins with this byte.
+#[tactic(auto, unfolding(crate::specs::Decode::wants))]
 pub fn wants(c: u8) -> usize
     ensures { result ≡ D.wants c }
 {

@@ -1,0 +1,8 @@
+use Rattle.commands.specs.Decode.{due}
+use Rattle.commands.specs.Theorems.Laws.{there, missing, moment_drop}
+use borrow.Author.Rules.{rules}
+use Rattle.commands.proofs.due.Goals as goal
+
+pub returns : goal.returns
+unfolding due
+returns c = rw (there 13 _ _ _ c.if-input-at-lt13.false, moment_drop, c.moment-t.ensures)

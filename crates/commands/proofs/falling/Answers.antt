@@ -1,0 +1,8 @@
+use Rattle.commands.specs.Decode.{falling}
+use Rattle.commands.specs.Theorems.Laws.{there, missing, moment_drop}
+use borrow.Author.Rules.{rules}
+use Rattle.commands.proofs.falling.Goals as goal
+
+pub returns : goal.returns
+unfolding falling
+returns c = rw (there 13 _ _ _ c.if-input-at-lt13.false, moment_drop, c.moment-t.ensures)
