@@ -68,7 +68,6 @@ fn counted(count: u8) -> u8
 }
 
 // `sum` and the n codes from `from` on.
-#[tactic(auto, unfolding(crate::specs::Mean::sumZ))]
 fn add_run(history: &[i16; 192], from: usize, n: usize, sum: i32) -> i32
     requires { (from + n ≤ 192) × (mag sum + n * 32768 < 2 ^ 31) }
     ensures { (result ≡ sum +ℤ sumZ (take n (drop from history.now))) × (mag result ≤ mag sum + n * 32768) }

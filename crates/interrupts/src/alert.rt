@@ -11,6 +11,7 @@ use registers::fields::{
 
 impl Interrupts {
     // Under alert both durations fall by one.
+    #[tactic(auto, unfolding(crate::specs::State::shorten))]
     fn shorten(mut self) -> Interrupts
         ensures { result ≡ shorten self }
     {
@@ -53,6 +54,7 @@ impl Interrupts {
     }
 
     // The alert's durations have fallen to 0.
+    #[tactic(auto, unfolding(crate::specs::State::lapsed))]
     fn lapsed(self) -> bool
         ensures { result ≡ lapsed self }
     {
@@ -76,6 +78,7 @@ impl Interrupts {
     }
 
     // Both criteria count; one that fires, or an alert that is over, ends the alert.
+    #[tactic(auto, unfolding(crate::specs::State::ended))]
     fn ended(self, registers: [u8; 62]) -> Interrupts
         ensures { result ≡ ended self registers }
     {
@@ -98,6 +101,7 @@ impl Interrupts {
         s
     }
 
+    #[tactic(auto, unfolding(crate::specs::State::millisecond))]
     pub fn millisecond(self, registers: [u8; 62]) -> Interrupts
         ensures { result ≡ millisecond self registers }
     {

@@ -59,6 +59,7 @@ impl Interrupts {
     }
 
     // LG_dur and HG_dur become the working durations, but under alert.
+    #[tactic(auto, unfolding(crate::specs::State::configure))]
     pub fn configure(mut self, registers: [u8; 62]) -> Interrupts
         ensures { result ≡ configure self registers }
     {
@@ -71,6 +72,7 @@ impl Interrupts {
     }
 
     // Acquisition starts anew.
+    #[tactic(auto, unfolding(crate::specs::State::restart_acquisition))]
     pub fn restart_acquisition(mut self) -> Interrupts
         ensures { result ≡ restart_acquisition self }
     {
@@ -87,6 +89,7 @@ impl Interrupts {
     }
 
     // reset_INT.
+    #[tactic(auto, unfolding(crate::specs::State::configure, crate::specs::State::reset))]
     pub fn reset(mut self, registers: [u8; 62]) -> Interrupts
         ensures { result ≡ reset self registers }
     {
@@ -103,6 +106,7 @@ impl Interrupts {
     }
 
     // A code on an axis, whose number is taken modulo 3.
+    #[tactic(auto, unfolding(crate::specs::State::axis))]
     pub fn axis(mut self, number: u8, code: i16, registers: [u8; 62]) -> Interrupts
         ensures { result ≡ axis self number code registers }
     {

@@ -10,6 +10,7 @@ use registers::fields::{
 };
 
 // A code differs enough from an earlier one.
+#[tactic(auto, unfolding(crate::specs::State::moved))]
 fn moved(new: i16, old: i16, threshold: u8) -> bool
     ensures { result ≡ moved new old threshold }
 {
@@ -17,6 +18,7 @@ fn moved(new: i16, old: i16, threshold: u8) -> bool
 }
 
 // One axis at least has moved from the observation at the cursor.
+#[tactic(auto, unfolding(crate::specs::State::moves))]
 fn moves(history: [i16; 9], cursor: u8, codes: [i16; 3], threshold: u8) -> bool
     ensures { result ≡ moves history (cursor % 3 * 3) codes threshold }
 {
@@ -31,6 +33,7 @@ fn moves(history: [i16; 9], cursor: u8, codes: [i16; 3], threshold: u8) -> bool
 }
 
 // Enough observations in a row have moved, and enable_adv_INT is set.
+#[tactic(auto, unfolding(crate::specs::State::qualifies))]
 fn qualifies(set: u8, need: u8, registers: [u8; 62]) -> bool
     ensures { result ≡ qualifies set need registers }
 {
@@ -41,6 +44,7 @@ fn qualifies(set: u8, need: u8, registers: [u8; 62]) -> bool
 }
 
 // Motion begins the alert.
+#[tactic(auto, unfolding(crate::specs::State::alerts))]
 fn alerts(set: u8, need: u8, registers: [u8; 62]) -> bool
     ensures { result ≡ alerts set need registers }
 {
@@ -51,6 +55,7 @@ fn alerts(set: u8, need: u8, registers: [u8; 62]) -> bool
 }
 
 // Motion is an interrupt of its own.
+#[tactic(auto, unfolding(crate::specs::State::detects))]
 fn detects(set: u8, need: u8, registers: [u8; 62]) -> bool
     ensures { result ≡ detects set need registers }
 {
@@ -112,6 +117,7 @@ impl Interrupts {
     }
 
     // How many in a row have moved, or have not.
+    #[tactic(auto, unfolding(crate::specs::State::count_motion))]
     fn count_motion(mut self, active: bool) -> Interrupts
         ensures { result ≡ count_motion self active }
     {
@@ -127,6 +133,7 @@ impl Interrupts {
     }
 
     // What so many in a row bring about.
+    #[tactic(auto, unfolding(crate::specs::State::decide))]
     fn decide(mut self, need: u8, registers: [u8; 62]) -> Interrupts
         ensures { result ≡ decide self need registers }
     {
@@ -139,6 +146,7 @@ impl Interrupts {
     }
 
     // An observation is compared only from the fourth on.
+    #[tactic(auto, unfolding(crate::specs::State::observation))]
     fn observation(self, codes: [i16; 3], registers: [u8; 62], need: u8) -> Interrupts
         ensures { result ≡ observation self codes registers need }
     {
@@ -153,6 +161,7 @@ impl Interrupts {
     }
 
     // A cycle of codes on the three axes: one in `window` is an observation. `needs` has the number in a row by any_motion_dur.
+    #[tactic(auto, unfolding(crate::specs::State::cycle))]
     pub fn cycle(
         mut self,
         codes: [i16; 3],

@@ -29,6 +29,7 @@ fn shown(latch: bool, latched: bool, level: bool) -> bool
 }
 
 // An enabled criterion shows its level or its latch.
+#[tactic(auto, unfolding(crate::specs::Pin::threshold_output))]
 fn threshold_output(t: Threshold, enabled: bool, latch: bool) -> bool
     ensures { result ≡ threshold_output t enabled latch }
 {
@@ -39,6 +40,7 @@ fn threshold_output(t: Threshold, enabled: bool, latch: bool) -> bool
 }
 
 // Alert or any_motion is set.
+#[tactic(auto, unfolding(crate::specs::Pin::enables_motion))]
 fn enables_motion(criteria: u8) -> bool
     ensures { result ≡ enables_motion criteria }
 {
@@ -49,6 +51,7 @@ fn enables_motion(criteria: u8) -> bool
 }
 
 // An enabled criterion is met.
+#[tactic(auto, unfolding(crate::specs::Pin::candidate))]
 fn candidate(t: Threshold, high: bool, enabled: bool) -> bool
     ensures { result ≡ candidate t high enabled }
 {
@@ -74,6 +77,7 @@ impl Interrupts {
     }
 
     // Motion shows.
+    #[tactic(auto, unfolding(crate::specs::Pin::motion_output))]
     fn motion_output(self, registers: [u8; 62]) -> bool
         ensures { result ≡ motion_output self registers }
     {
@@ -95,6 +99,7 @@ impl Interrupts {
     }
 
     // The interrupt.
+    #[tactic(auto, unfolding(crate::specs::Pin::output))]
     pub fn output(self, registers: [u8; 62]) -> bool
         ensures { result ≡ output self registers }
     {
@@ -112,6 +117,7 @@ impl Interrupts {
     }
 
     // Motion is being verified.
+    #[tactic(auto, unfolding(crate::specs::Pin::verifying_motion))]
     fn verifying_motion(self, registers: [u8; 62]) -> bool
         ensures { result ≡ verifying_motion self registers }
     {
@@ -128,6 +134,7 @@ impl Interrupts {
     }
 
     // A candidate is being verified, which keeps the sensor awake.
+    #[tactic(auto, unfolding(crate::specs::Pin::verifying))]
     pub fn verifying(self, registers: [u8; 62]) -> bool
         ensures { result ≡ verifying self registers }
     {

@@ -20,6 +20,7 @@ pub struct Ticked {
 }
 
 // A code sets its axis.
+#[tactic(auto, unfolding(crate::specs::Criteria::sets))]
 fn sets(high: bool, code: i16, threshold: u8) -> bool
     ensures { result ≡ sets high code threshold }
 {
@@ -32,6 +33,7 @@ fn sets(high: bool, code: i16, threshold: u8) -> bool
 }
 
 // A code clears its axis.
+#[tactic(auto, unfolding(crate::specs::Criteria::clears))]
 fn clears(high: bool, code: i16, threshold: u8, hysteresis: u8) -> bool
     ensures { result ≡ clears high code threshold hysteresis }
 {
@@ -45,6 +47,7 @@ fn clears(high: bool, code: i16, threshold: u8, hysteresis: u8) -> bool
 }
 
 // An axis after a code.
+#[tactic(auto, unfolding(crate::specs::Criteria::raised))]
 fn raised(high: bool, code: i16, threshold: u8, hysteresis: u8, old: bool) -> bool
     ensures { result ≡ raised high code threshold hysteresis old }
 {
@@ -76,6 +79,7 @@ fn with_axis(axes: [bool; 3], axis: usize, value: bool) -> [bool; 3]
 }
 
 // High-g needs one axis, low-g all.
+#[tactic(auto, unfolding(crate::specs::Criteria::active))]
 pub(crate) fn active(high: bool, axes: [bool; 3]) -> bool
     ensures { result ≡ active high axes }
 {
@@ -98,6 +102,7 @@ pub(crate) fn active(high: bool, axes: [bool; 3]) -> bool
 }
 
 // The raised count exceeds the duration.
+#[tactic(auto, unfolding(crate::specs::Criteria::fires))]
 fn fires(enabled: bool, met: bool, count: u16, duration: u8) -> bool
     ensures { result ≡ fires enabled met count duration }
 {
@@ -115,6 +120,7 @@ fn fires(enabled: bool, met: bool, count: u16, duration: u8) -> bool
 }
 
 // The count after a millisecond.
+#[tactic(auto, unfolding(crate::specs::Criteria::counted))]
 fn counted(enabled: bool, met: bool, count: u16, duration: u8, mode: u8) -> u16
     ensures { result ≡ counted enabled met count duration mode }
 {
@@ -157,6 +163,7 @@ impl Threshold {
     }
 
     // A code on an axis.
+    #[tactic(auto, unfolding(crate::specs::Criteria::observe))]
     pub(crate) fn observe(
         mut self,
         axis: u8,
