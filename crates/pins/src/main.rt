@@ -8,6 +8,8 @@ mod bus;
 ghost use Rattle.std.specs.Prelude.{◌+◌, ◌*◌, ◌≤◌, length};
 
 use crate::both::{Sensor, start};
+use std::io;
+use std::io::{Read, Write};
 
 // After a block: the state, and whether more may come.
 #[derive(Clone, Copy)]
@@ -16,10 +18,10 @@ struct Turn {
     more: bool,
 }
 
-fn flush(out: &[u8], n: usize)
+fn flush<W: Write>(output: &mut W, out: &[u8], n: usize) -> io::Result<()>
     requires { n ≤ length out.now }
 {
-    io::write_all(1, &out[..n]);
+    output.write_all(&out[..n])
 }
 
 // The first n events of a block.
@@ -35,32 +37,46 @@ fn answers(buf: &[u8; 32768], n: usize, out: &mut [u8; 65536], sensor: Sensor) -
     s
 }
 
-fn block(buf: &mut [u8; 32768], out: &mut [u8; 65536], t: Turn) -> Turn {
-    let n = io::read_full(0, buf);
+fn block<R: Read, W: Write>(
+    input: &mut R,
+    output: &mut W,
+    buf: &mut [u8; 32768],
+    out: &mut [u8; 65536],
+    t: Turn,
+) -> io::Result<Turn> {
+    let n = input.read(buf)?;
     let s = t.sensor;
     let sensor = answers(buf, n, out, s);
-    flush(out, n * 2);
-    Turn {
+    flush(output, out, n * 2)?;
+    Ok(Turn {
         sensor: sensor,
         more: 0 < n,
-    }
+    })
 }
 
 // Nothing says that the input ends, so the loop counts its turns down from a number that no run uses up.
-fn run(buf: &mut [u8; 32768], out: &mut [u8; 65536]) {
+fn run<R: Read, W: Write>(
+    input: &mut R,
+    output: &mut W,
+    buf: &mut [u8; 32768],
+    out: &mut [u8; 65536],
+) -> io::Result<()> {
     let mut turns = u64::MAX;
     let mut t = Turn {
         sensor: start(0x88),
         more: true,
     };
     while turns > 0 && t.more {
-        t = block(buf, out, t);
+        t = block(input, output, buf, out, t)?;
         turns -= 1;
     }
+    Ok(())
 }
 
-fn main() {
+fn main(rt: HostRuntime) -> io::Result<()> {
     let mut buf = [0u8; 32768];
     let mut out = [0u8; 65536];
-    run(&mut buf, &mut out);
+    let mut input = rt.stdin();
+    let mut output = rt.stdout();
+    run(&mut input, &mut output, &mut buf, &mut out)
 }
