@@ -71,7 +71,7 @@ answers f axis code codes s h true e =
 answers f axis code codes s h false e =
     let w = window f in
     let enough : w ≤ length (code ∷ codes) = ltb-false (length (code ∷ codes)) w e in
-    let most : w ≤ 64 = window_le (min f.shift 6) (omega arith) in
+    let most : w ≤ 64 = omega (arith, window_le (min f.shift 6) (omega arith)) in
     let then = holds-push f axis axis code codes s h true (eq-eqb (axis % 3) (axis % 3) refl) in
     answered_mean f axis code (rw h.count (omega arith))
     ∙ rw (then.last, take-take w 64 (code ∷ codes ++ replicate 64 (pos 0)) most, take-append-le w (code ∷ codes) (replicate 64 (pos 0)) enough)
@@ -116,7 +116,7 @@ fullness f axis code codes h true e =
     not_full f axis code (rw h.count (omega (arith, window_le (min f.shift 6) (omega arith))))
 fullness f axis code codes h false e =
     let enough : window f ≤ length (code ∷ codes) = ltb-false (length (code ∷ codes)) (window f) e in
-    let most : window f ≤ 64 = window_le (min f.shift 6) (omega arith) in
+    let most : window f ≤ 64 = omega (arith, window_le (min f.shift 6) (omega arith)) in
     is_full f axis code (rw h.count (omega arith))
 
 -- after a new filter and any operations: 01's word for the bandwidth in force and the codes pushed on that axis
