@@ -1,5 +1,5 @@
 -- A step of an axis: its words, the sums of products and what lands on 64 bits.
-use Rattle.std.proofs.Common.{◌≡◌, ℕ, zero, suc, ◌+◌, ◌*◌, ◌/◌, ◌%◌, ◌^◌, ◌<◌, ◌≤◌, Bool, true, false, not, ◌&&◌, ◌||◌, eqb, ltb, ℤ, pos, negsuc, ◌+ℤ◌, ◌-ℤ◌, ◌*ℤ◌, neg_ℤ, nat_abs, sym, refl, ap, ◌∙◌, le_trans, le_refl, lt_of_le_of_lt, le_of_lt, add-le-add, mul-le-mul, zero-mul, arith, lit<, lit≤, w64, SFits, to_z, of_z, eq-eqb, ne_eqb, eqb-true}
+use Rattle.std.proofs.Common.{◌≡◌, ℕ, zero, suc, ◌+◌, ◌*◌, ◌/◌, ◌%◌, ◌^◌, ◌<◌, ◌≤◌, Bool, true, false, ◌&&◌, ◌||◌, eqb, ℤ, pos, negsuc, ◌+ℤ◌, ◌-ℤ◌, ◌*ℤ◌, neg_ℤ, nat_abs, sym, refl, ap, ◌∙◌, le_trans, le_refl, lt_of_le_of_lt, le_of_lt, add-le-add, mul-le-mul, zero-mul, arith, lit<, lit≤, w64, SFits, to_z, of_z, eq-eqb, ne_eqb, eqb-true}
 use borrow.Author.Tests.{eqb-false}
 use lib.IntN.{+ℤ_idl, -ℤ-+ℤ_cancel, neg_ℤ-neg_ℤ}
 use lib.Signed.{mag, lt_z}
@@ -13,7 +13,7 @@ use Rattle.analog.specs.declared.types.Analog.{Analog}
 use Rattle.analog.specs.Round.{round, bits_64, signed_64, low_64}
 use Rattle.analog.specs.Wide.{signed}
 use Rattle.analog.specs.Decay.{unit, factors}
-use Rattle.analog.specs.Axis.{same, settled, resumed, stepped, advanced, turned}
+use Rattle.analog.specs.Axis.{same, settled, resumed, stepped, advanced}
 use Rattle.analog.specs.Theorems.Near.{abs_neg, round_signed}
 use Rattle.analog.specs.Theorems.Lands.{same_true, same_refl}
 use Rattle.analog.specs.Theorems.Sizes.{abs_add, abs_sub, abs_mul_le, low_keeps_abs}

@@ -45,6 +45,7 @@ fn landed(base: i64, w: Wide) -> i64
     moved(base, w.negative, rounded(w, HALF))
 }
 
+#[tactic(auto, unfolding(crate::specs::Axis::stepped))]
 fn step(a: Axis, now: Time, input: i32, f: Factors) -> Axis
     requires { Below f }
     ensures { result ≡ Ax.stepped a now input f }
@@ -110,6 +111,7 @@ impl Axis {
     }
 
     // The lagged acceleration in millionths of g.
+    #[tactic(auto, unfolding(crate::specs::Axis::value))]
     pub fn value(self) -> i64
         ensures { result ≡ Ax.value self }
     {
@@ -187,6 +189,7 @@ impl Analog {
         }
     }
 
+    #[tactic(auto, unfolding(crate::specs::Axis::axis_of))]
     pub fn axis(self, axis: u8) -> Axis
         ensures { result ≡ Ax.axis_of self axis }
     {
@@ -202,6 +205,7 @@ impl Analog {
         a
     }
 
+    #[tactic(auto, unfolding(crate::specs::Axis::with_axis))]
     pub fn with_axis(self, axis: u8, a: Axis) -> Analog
         ensures { result ≡ Ax.with_axis self axis a }
     {

@@ -26,6 +26,7 @@ fn share(x: i64, angle: u64, n: u64) -> i64
     exact(w.negative, rounded(w, n * HALF) / n)
 }
 
+#[tactic(auto, unfolding(crate::specs::Decay::term))]
 fn term(s: Series, angle: u64, n: u64) -> Series
     requires { (unsigned_abs s.tr ≤ 2 ^ 48) × (unsigned_abs s.ti ≤ 2 ^ 48) × (unsigned_abs s.re ≤ 13 * 2 ^ 48) × (unsigned_abs s.im ≤ 13 * 2 ^ 48) × (angle ≤ 2 ^ 44) × (0 < n) × (n ≤ 12) }
     ensures { result ≡ D.term angle n s }
@@ -40,6 +41,7 @@ fn term(s: Series, angle: u64, n: u64) -> Series
     }
 }
 
+#[tactic(auto, unfolding(crate::specs::Decay::terms))]
 fn series(angle: u64) -> Factors
     requires { angle ≤ 2 ^ 44 }
     ensures { result ≡ D.series angle }
@@ -57,6 +59,7 @@ fn series(angle: u64) -> Factors
     Factors { re: s.re, im: s.im }
 }
 
+#[tactic(auto, unfolding(crate::specs::Decay::squared))]
 fn square(f: Factors) -> Factors
     requires { Below f × Below (D.squared f) }
     ensures { result ≡ D.squared f }
@@ -102,6 +105,7 @@ fn halved(angle: u64) -> Halving
 }
 
 // Squared so many times.
+#[tactic(auto, unfolding(laws::specs::Iterate::iterate))]
 fn raised(f: Factors, squares: u8) -> Factors
     requires { (k : ℕ) → k ≤ squares → Below (iterate k D.squared f) }
     ensures { result ≡ iterate squares D.squared f }
