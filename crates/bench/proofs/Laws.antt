@@ -15,7 +15,7 @@ use Rattle.calls.specs.declared.types.Starting.{Starting}
 use Rattle.calls.specs.Facts.{facts}
 use Rattle.calls.specs.Table as R
 use Rattle.calls.specs.Table.{wrong_length, first_found, refusal, unless_refused}
-use Rattle.calls.specs.Theorems.Left.{temperature_accepted, select_accepted}
+use Rattle.calls.proofs.Theorems.Left.{temperature_accepted, select_accepted}
 use Rattle.samples.specs.Samples.{interaction_deadline}
 use Rattle.bma150.specs.declared.host.Bma150.{Bma150}
 use Rattle.commands.specs.declared.Command.TheVariants as Command

@@ -1,4 +1,3 @@
 pub mod Values
 pub mod Called
 pub mod Lent
-pub mod Theorems

@@ -14,7 +14,7 @@ use Rattle.book.specs.Lists as L
 use Rattle.book.specs.Book.{Book, entered}
 use Rattle.book.specs.Claim.{ending, stored_bytes}
 use Rattle.book.specs.Closed.{Entry, with_entry, entries, seen, that_runs, written, writes, cells_after}
-use Rattle.book.specs.Theorems.Closed.{cells_are, running_is}
+use Rattle.book.proofs.Theorems.Closed.{cells_are, running_is}
 use Rattle.book.proofs.Keeps.{core}
 use Rattle.book.proofs.Sound.{running_of, read, filled_read, Sound}
 use Rattle.book.proofs.Lists.{stepped, start_sound, start_book, left_fresh, book_is, claim}

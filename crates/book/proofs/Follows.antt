@@ -16,9 +16,9 @@ use Rattle.calls.specs.declared.types.Timed.TheVariants as Timed
 use Rattle.calls.specs.declared.types.Call.{Call}
 use Rattle.calls.specs.declared.types.Call.TheVariants as Call
 use Rattle.calls.specs.Table as T
-use Rattle.calls.specs.Theorems.Found.{never}
-use Rattle.calls.specs.Theorems.Exactly.{follows_on}
-use Rattle.calls.specs.Theorems.Left.{accepted_is, refused_is}
+use Rattle.calls.proofs.Theorems.Found.{never}
+use Rattle.calls.proofs.Theorems.Exactly.{follows_on}
+use Rattle.calls.proofs.Theorems.Left.{accepted_is, refused_is}
 use Rattle.sensor.specs.declared.types.Kept.{Kept}
 use Rattle.sensor.specs.declared.types.Operation.{Operation}
 use Rattle.sensor.specs.declared.types.Operation.TheVariants as Operation

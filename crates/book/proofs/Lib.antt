@@ -10,3 +10,4 @@ pub mod Walk
 pub mod Onward
 pub mod Marks
 pub mod OnwardExamples
+pub mod Theorems

@@ -22,7 +22,7 @@ use Rattle.sensor.specs.Image.{image_at, nonvolatile, powered}
 use Rattle.waits.specs.Supply.{without_report, supply_low, supply_ok, returned, cold_return, warm_return, set_supply}
 use Rattle.calls.specs.Facts.{timed_facts, facts}
 use Rattle.calls.specs.Table as T
-use Rattle.calls.specs.Theorems.Left.{accepted_is, refused_is}
+use Rattle.calls.proofs.Theorems.Left.{accepted_is, refused_is}
 use Rattle.bma150.specs.Called.{Added, started, called, leaves, adds, effect, start_number, after_start}
 use Rattle.book.specs.Does.{does}
 use Rattle.book.specs.Lists.{Fits, accepts, step, Start, after, answers, accepted, Fractions, met_zero, last_kept, kept, Returns}

@@ -7,7 +7,7 @@ use lib.ListN.{length}
 use Rattle.time.specs.Time.{time}
 use Rattle.calls.specs.declared.types.Call.{Call}
 use Rattle.calls.specs.Table as T
-use Rattle.calls.specs.Theorems.Left.{accepted_is, refused_is, start_length}
+use Rattle.calls.proofs.Theorems.Left.{accepted_is, refused_is, start_length}
 use Rattle.sensor.specs.Image.{stock, reset_registers}
 use Rattle.bma150.specs.declared.host.Bma150.{Bma150}
 use Rattle.bma150.specs.Called as Called

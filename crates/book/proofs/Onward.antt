@@ -18,7 +18,7 @@ use Rattle.calls.specs.declared.types.Dated.{Dated}
 use Rattle.calls.specs.declared.types.Dated.TheVariants as Dated
 use Rattle.calls.specs.Facts.{timed_facts, facts}
 use Rattle.calls.specs.Table as T
-use Rattle.calls.specs.Theorems.Left.{clear, accepted_is, refused_is}
+use Rattle.calls.proofs.Theorems.Left.{clear, accepted_is, refused_is}
 use Rattle.sensor.specs.Image.{stock}
 use Rattle.samples.specs.Samples.{interaction_deadline}
 use Rattle.bma150.specs.declared.host.Bma150.{Bma150}

@@ -18,7 +18,7 @@ use Rattle.nv.specs.declared.WriteCycle.{WriteCycle}
 use Rattle.deadlines.specs.declared.Deadline.{Deadline}
 use Rattle.deadlines.specs.declared.Deadline.TheVariants.{At, Never}
 use Rattle.deadlines.specs.Deadlines.{is_at, is_by, earliest}
-use Rattle.deadlines.specs.Theorems.Earliest.{earliest_by_each}
+use Rattle.deadlines.proofs.Theorems.Earliest.{earliest_by_each}
 use Rattle.sensor.specs.declared.types.Operation.{Operation}
 use Rattle.sensor.specs.declared.types.Operation.TheVariants as Operation
 use Rattle.sensor.specs.declared.types.Sensor.{Sensor}
@@ -34,7 +34,7 @@ use Rattle.calls.specs.declared.types.Axes.{Axes}
 use Rattle.calls.specs.declared.types.Lines.{Lines}
 use Rattle.calls.specs.declared.types.Facts.{Facts}
 use Rattle.calls.specs.Facts.{at, facts}
-use Rattle.calls.specs.Theorems.Left.{clear}
+use Rattle.calls.proofs.Theorems.Left.{clear}
 use Rattle.bma150.specs.declared.host.Bma150.{Bma150}
 use Rattle.book.specs.Book.{Running, Book, book, struck, operation, filled, completing, completed, closed}
 use Rattle.book.specs.Book as B

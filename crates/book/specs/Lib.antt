@@ -6,4 +6,3 @@ pub mod Closed
 pub mod Follows
 pub mod Onward
 pub mod Marks
-pub mod Theorems

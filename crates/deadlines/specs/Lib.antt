@@ -1,2 +1,1 @@
 pub mod Deadlines
-pub mod Theorems

@@ -3,4 +3,3 @@ pub mod Engine
 pub mod Transfers
 pub mod Target
 pub mod Answers
-pub mod Theorems

@@ -2,4 +2,3 @@ pub mod Put
 pub mod Machine
 pub mod Block
 pub mod Pieces
-pub mod Theorems

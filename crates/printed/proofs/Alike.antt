@@ -12,7 +12,7 @@ use Rattle.calls.specs.declared.types.Starting.{Starting}
 use Rattle.samples.specs.Samples.{interaction_deadline}
 use Rattle.bma150.specs.declared.host.Bma150.{Bma150}
 use Rattle.bma150.specs.Called.{Called, called, start_number, after_start, interrupt, output, data_output}
-use Rattle.bma150.specs.Theorems.Added.{view_leaves}
+use Rattle.bma150.proofs.Theorems.Added.{view_leaves}
 use Rattle.book.specs.Lists as C
 use Rattle.book.specs.Lists.{Answer, answer, answers}
 use Rattle.commands.specs.declared.Command.{Command}

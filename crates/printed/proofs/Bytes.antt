@@ -12,7 +12,7 @@ use Rattle.calls.specs.declared.types.Call.TheVariants as Call
 use Rattle.calls.specs.Table.{unless_refused}
 use Rattle.bma150.specs.declared.host.Bma150.{Bma150}
 use Rattle.bma150.specs.Called.{Added, Called, adds, number, called, start_number}
-use Rattle.bma150.specs.Theorems.Added.{image_leaves}
+use Rattle.bma150.proofs.Theorems.Added.{image_leaves}
 use Rattle.machine.specs.Machine.{Running}
 use Rattle.commands.specs.Encode.{timed_bytes, call_bytes, CallFits}
 use Rattle.book.specs.Lists.{Start, answer, answers}
@@ -24,8 +24,8 @@ use Rattle.bench.proofs.Laws.{called_is}
 use Rattle.printed.specs.Lines.{text_of}
 use Rattle.printed.specs.Inputs.{inputs, AllFit, start_bytes, supply_bytes, image_bytes, texts, image_line}
 use Rattle.printed.specs.Printed.{run_bytes, RunFits, run_text, Follows, Shows}
-use Rattle.printed.specs.Theorems.Texts.{text_is_answers, start_text_goes_on}
-use Rattle.printed.specs.Theorems.Digits.{line_injective}
+use Rattle.printed.proofs.Theorems.Texts.{text_is_answers, start_text_goes_on}
+use Rattle.printed.proofs.Theorems.Digits.{line_injective}
 
 -- ---- lists that end with a call
 

@@ -23,7 +23,7 @@ use Rattle.bench.specs.Text.{hexes}
 use Rattle.bench.specs.Run.{whole}
 use Rattle.printed.specs.Inputs.{AllFit, image_bytes, image_line}
 use Rattle.printed.specs.Printed.{run_bytes, RunFits, run_text, Follows, Shows}
-use Rattle.printed.specs.Theorems.Fractions.{fractions_fit}
+use Rattle.printed.proofs.Theorems.Fractions.{fractions_fit}
 use Rattle.printed.proofs.Printed.{printed}
 use Rattle.nv.specs.Cell as NC
 use Rattle.registers.specs.Access as Ra

@@ -2,3 +2,4 @@ pub mod Alike
 pub mod Bytes
 pub mod Printed
 pub mod Examples
+pub mod Theorems

@@ -14,7 +14,7 @@ use Rattle.book.proofs.Lists.{claim}
 use Rattle.bench.specs.Text.{hexes}
 use Rattle.bench.specs.Run.{whole}
 use Rattle.printed.specs.Printed.{RunFits, run_text, Follows, Shows, Printed}
-use Rattle.printed.specs.Theorems.Digits.{hexes_injective}
+use Rattle.printed.proofs.Theorems.Digits.{hexes_injective}
 use Rattle.printed.proofs.Alike.{alike_prints}
 use Rattle.printed.proofs.Bytes.{follows, shows, digits_are}
 

@@ -2,4 +2,3 @@ pub mod Lines
 pub mod Inputs
 pub mod Commands
 pub mod Printed
-pub mod Theorems

@@ -14,8 +14,8 @@ use Rattle.calls.specs.declared.types.Timed.TheVariants as Timed
 use Rattle.calls.specs.declared.types.Call.{Call}
 use Rattle.calls.specs.declared.types.Call.TheVariants as Call
 use Rattle.calls.specs.Table as T
-use Rattle.calls.specs.Theorems.Left.{accepted_is, refused_is}
-use Rattle.calls.specs.Theorems.Exactly.{TurnedDown, start_refused_whole}
+use Rattle.calls.proofs.Theorems.Left.{accepted_is, refused_is}
+use Rattle.calls.proofs.Theorems.Exactly.{TurnedDown, start_refused_whole}
 use Rattle.sensor.specs.declared.types.Kept.{Kept}
 use Rattle.sensor.specs.Image.{cell_byte, new_kept}
 use Rattle.samples.specs.Samples.{interaction_deadline}
@@ -27,7 +27,7 @@ use Rattle.book.specs.Lists as L
 use Rattle.book.specs.Book.{opened, booked}
 use Rattle.book.specs.Claim.{ending, left, stored_bytes}
 use Rattle.book.specs.Closed.{writes, that_runs, latest, told}
-use Rattle.book.specs.Theorems.Closed.{by_latest}
+use Rattle.book.proofs.Theorems.Closed.{by_latest}
 use Rattle.book.proofs.Lists.{after_more, start_is, bytes_of, claim}
 use Rattle.book.proofs.Closed.{all_over}
 use Rattle.book.proofs.Follows.{step_kept, started_kept}

@@ -15,7 +15,7 @@ use denote.Ref.{Bor}
 use Rattle.time.specs.declared.Time.{Time}
 use Rattle.i2c.specs.declared.types.Levels.{Levels}
 use Rattle.deadlines.specs.declared.Deadline.{Deadline}
-use Rattle.deadlines.specs.Theorems.Earliest.{moment_injective}
+use Rattle.deadlines.proofs.Theorems.Earliest.{moment_injective}
 use Rattle.calls.specs.declared.types.Timed.{Timed}
 use Rattle.calls.specs.declared.types.Timed.TheVariants as Timed
 use Rattle.calls.specs.declared.types.Call.{Call}
@@ -29,7 +29,7 @@ use Rattle.calls.specs.declared.types.Outcome.{Outcome}
 use Rattle.calls.specs.declared.types.Outcome.TheVariants as Outcome
 use Rattle.calls.specs.Facts.{bringing, facts}
 use Rattle.calls.specs.Table as T
-use Rattle.calls.specs.Theorems.Left.{temperature_accepted, select_accepted, view_accepted}
+use Rattle.calls.proofs.Theorems.Left.{temperature_accepted, select_accepted, view_accepted}
 use Rattle.sensor.specs.declared.types.View.{View}
 use Rattle.sensor.specs.RegisterReads.{viewed}
 use Rattle.samples.specs.Samples.{interaction_deadline}
@@ -40,8 +40,8 @@ use Rattle.bma150.specs.declared.types.Reported.{Reported}
 use Rattle.bma150.specs.declared.host.Bma150.{Bma150}
 use Rattle.bma150.specs.Values.{report_values}
 use Rattle.bma150.specs.Called.{Added, reported, of_view, put_in, timed_adds, served, leaves, adds, number, called, measurement_of, start_number, after_start, interrupt, output, data_output}
-use Rattle.bma150.specs.Theorems.Values.{drive_letter_injective}
-use Rattle.bma150.specs.Theorems.Added.{reported_is, silent_is, buffer_is, image_leaves, view_leaves, view_adds}
+use Rattle.bma150.proofs.Theorems.Values.{drive_letter_injective}
+use Rattle.bma150.proofs.Theorems.Added.{reported_is, silent_is, buffer_is, image_leaves, view_leaves, view_adds}
 use Rattle.bma150.proofs.host.Bma150.start.Met as start_theorem
 use Rattle.bma150.proofs.host.Bma150.start_stored.Met as start_stored_theorem
 use Rattle.bma150.proofs.host.Bma150.timed.Met as timed_theorem

@@ -1,6 +1,6 @@
 use borrow.Author.Rules.{rules}
 use lib.ListN.{length-drop}
-use Rattle.commands.specs.Theorems.Laws.{head_drop}
+use Rattle.commands.proofs.Theorems.Laws.{head_drop}
 use Rattle.bench.specs.Block.{is_whole}
 use Rattle.bench.specs.Theorems.Loop.{any_whole, none_left}
 use Rattle.bench.proofs.is_whole.Statement.{statement}

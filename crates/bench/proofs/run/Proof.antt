@@ -4,7 +4,7 @@ use mathlib.Core.Path.{◌≡◌, refl, sym, ◌∙◌}
 use mathlib.Core.Bool.{true, false}
 use Prim.Native.Nat.{◌-◌, ◌≤◌}
 use lib.ListN.{length, drop, length-drop}
-use Rattle.machine.specs.Theorems.Blocks.{Upto, begun, pace_short, pace_full, pace_stopped, stopped_turn}
+use Rattle.machine.proofs.Theorems.Blocks.{Upto, begun, pace_short, pace_full, pace_stopped, stopped_turn}
 use Rattle.bench.specs.Run.{bench}
 use Rattle.bench.specs.Block.{is_whole}
 use Rattle.bench.specs.Theorems.Loop.{short, some, advance, went, finished}

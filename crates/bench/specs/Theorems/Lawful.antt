@@ -6,7 +6,7 @@ use Rattle.machine.specs.Machine.{Lawful}
 use Rattle.commands.specs.declared.Command.{Command}
 use Rattle.commands.specs.declared.Command.TheVariants as Command
 use Rattle.commands.specs.Decode.{decoded, image}
-use Rattle.commands.specs.Theorems.More.{wants_some, decoded_whole, decoded_good, image_there, image_more, size_pos, size_fits}
+use Rattle.commands.proofs.Theorems.More.{wants_some, decoded_whole, decoded_good, image_there, image_more, size_pos, size_fits}
 use Rattle.bma150.specs.declared.host.Bma150.{Bma150}
 use Rattle.bma150.specs.Called.{Called}
 use Rattle.bench.specs.Line.{commanded}

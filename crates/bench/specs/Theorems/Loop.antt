@@ -5,12 +5,12 @@ use Rattle.std.proofs.lemmas.List.Edits.{sets}
 use Rattle.machine.specs.Put.{Put}
 use Rattle.machine.specs.Machine.{Running, running}
 use Rattle.machine.specs.Block as M
-use Rattle.machine.specs.Theorems.Blocks as T
-use Rattle.machine.specs.Theorems.Blocks.{Upto}
+use Rattle.machine.proofs.Theorems.Blocks as T
+use Rattle.machine.proofs.Theorems.Blocks.{Upto}
 use Rattle.commands.specs.declared.Command.{Command}
 use Rattle.commands.specs.Decode.{decoded, image, size, is_bad}
-use Rattle.commands.specs.Theorems.Laws.{head_drop}
-use Rattle.commands.specs.Theorems.More.{size_pos, size_fits}
+use Rattle.commands.proofs.Theorems.Laws.{head_drop}
+use Rattle.commands.proofs.Theorems.More.{size_pos, size_fits}
 use Rattle.bma150.specs.declared.host.Bma150.{Bma150}
 use Rattle.bma150.specs.Called.{Called}
 use Rattle.bench.specs.declared.types.Reply.{Reply}

@@ -2,7 +2,7 @@
 use Rattle.std.specs.Prelude.{◌≡◌, refl, List, [], ◌∷◌, ◌++◌, ℕ, ◌+◌, ◌<◌, length, take, get_or}
 use Rattle.std.proofs.Common.{sym, ap, ◌∙◌, append_assoc, arith}
 use Rattle.bench.specs.Text.{hex, hexes}
-use Rattle.machine.specs.Theorems.Put.{one_more}
+use Rattle.machine.proofs.Theorems.Put.{one_more}
 
 pub hexes_append : (l m : List ℕ) → hexes (l ++ m) ≡ hexes l ++ hexes m
 hexes_append [] m = refl

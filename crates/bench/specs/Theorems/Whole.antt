@@ -1,11 +1,11 @@
 -- After refusal 7 nothing more is written.
 use Rattle.std.specs.Prelude.{◌≡◌, Bool, true, false, List, [], ◌∷◌, ◌++◌, ℕ, ◌<◌, length, get_or}
 use Rattle.std.proofs.Common.{sym, ap, ◌∙◌, arith}
-use Rattle.machine.specs.Theorems.Whole.{after_stop}
+use Rattle.machine.proofs.Theorems.Whole.{after_stop}
 use Rattle.commands.specs.declared.Command.{Command}
 use Rattle.commands.specs.declared.Command.TheVariants as Command
 use Rattle.commands.specs.Decode.{decoded, image, is_bad}
-use Rattle.commands.specs.Theorems.More.{unknown}
+use Rattle.commands.proofs.Theorems.More.{unknown}
 use Rattle.bma150.specs.declared.host.Bma150.{Bma150}
 use Rattle.bench.specs.Line.{said}
 use Rattle.bench.specs.Run.{whole}

@@ -5,7 +5,7 @@ use mathlib.Core.List.{[]}
 use Prim.Native.Nat.{◌+◌, ◌≤◌}
 use Rattle.bench.specs.Block.{block}
 use Rattle.bench_stream.specs.Loop.{kept_of, Did}
-use Rattle.bench_stream.specs.Theorems.Turn.{within, shown}
+use Rattle.bench_stream.proofs.Theorems.Turn.{within, shown}
 use Rattle.bench_stream.proofs.commands.Statement.{statement}
 use Rattle.bench_stream.proofs.commands.Tie as tie
 

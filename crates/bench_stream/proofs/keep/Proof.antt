@@ -4,7 +4,7 @@ use mathlib.Core.Path.{◌≡◌}
 use Prim.Native.Nat.{◌+◌, ◌-◌, ◌≤◌, ◌<◌}
 use lib.ListN.{length, take, drop}
 use Rattle.machine.specs.Put.{Put}
-use Rattle.machine.specs.Theorems.Put.{none, says, moved, stored, kept_length}
+use Rattle.machine.proofs.Theorems.Put.{none, says, moved, stored, kept_length}
 use Rattle.bench_stream.proofs.keep.Statement.{statement}
 use Rattle.bench_stream.proofs.keep.Tie as tie
 

@@ -2,7 +2,7 @@ use borrow.Author.Rules.{rules}
 use mathlib.Core.Path.{refl}
 use mathlib.Core.List.{[]}
 use Rattle.bench_stream.specs.Loop.{Did}
-use Rattle.bench_stream.specs.Theorems.Turn.{front}
+use Rattle.bench_stream.proofs.Theorems.Turn.{front}
 use Rattle.bench_stream.proofs.more.Statement.{statement}
 use Rattle.bench_stream.proofs.more.Tie as tie
 

@@ -1,8 +1,8 @@
 use borrow.Author.Rules.{rules}
 use mathlib.Core.Path.{◌≡◌, sym, ◌∙◌}
 use Prim.Native.Nat.{◌+◌, ◌-◌, ◌≤◌}
-use Rattle.bench_stream.specs.Theorems.Turn.{first_bounds, not_stopped}
-use Rattle.bench_stream.specs.Theorems.Loop.{Upto, upto_first, upto_next, ended_now, used_up}
+use Rattle.bench_stream.proofs.Theorems.Turn.{first_bounds, not_stopped}
+use Rattle.bench_stream.proofs.Theorems.Loop.{Upto, upto_first, upto_next, ended_now, used_up}
 use Rattle.bench_stream.proofs.turns.Statement.{statement}
 use Rattle.bench_stream.proofs.turns.Tie as tie
 

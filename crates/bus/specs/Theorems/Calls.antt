@@ -11,8 +11,8 @@ use Rattle.i2c.specs.declared.types.Action.TheVariants as A
 use Rattle.i2c.specs.Bus.{edge}
 use Rattle.i2c.specs.Engine as E
 use Rattle.i2c.specs.Target.{Target, act, deed, serve, seen_at, seen}
-use Rattle.i2c.specs.Theorems.Uses.{uses}
-use Rattle.i2c.specs.Theorems.Frames.{still_changes_nothing}
+use Rattle.i2c.proofs.Theorems.Uses.{uses}
+use Rattle.i2c.proofs.Theorems.Frames.{still_changes_nothing}
 use Rattle.calls.specs.declared.types.Timed.{Timed}
 use Rattle.calls.specs.declared.types.Timed.TheVariants as Timed
 use Rattle.calls.specs.declared.types.Call.{Call}

@@ -8,7 +8,7 @@ use Rattle.i2c.specs.declared.types.Edge.{Edge}
 use Rattle.i2c.specs.declared.types.Edge.TheVariants.{Still, Start, Stop, Rise, Fall}
 use Rattle.i2c.specs.Target.{Target, serve, Seen, seen_at, left, seen}
 use Rattle.i2c.specs.Transfers.{and_edge}
-use Rattle.i2c.specs.Theorems.Frames.{still_changes_nothing, Serves}
+use Rattle.i2c.proofs.Theorems.Frames.{still_changes_nothing, Serves}
 use Rattle.calls.specs.declared.types.Call.{Call}
 use Rattle.bma150.specs.declared.host.Bma150.{Bma150}
 use Rattle.book.specs.Lists.{accepts, step, after, accepted}

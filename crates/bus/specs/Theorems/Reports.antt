@@ -10,7 +10,7 @@ use Rattle.i2c.specs.declared.types.Action.{Action}
 use Rattle.i2c.specs.declared.types.Action.TheVariants as A
 use Rattle.i2c.specs.Engine as E
 use Rattle.i2c.specs.Target.{target, act, deed}
-use Rattle.i2c.specs.Theorems.Uses.{uses, uses_exactly}
+use Rattle.i2c.proofs.Theorems.Uses.{uses, uses_exactly}
 use Rattle.deadlines.specs.Deadlines.{is_set}
 use Rattle.control.specs.declared.types.WriteKind.{WriteKind}
 use Rattle.control.specs.declared.types.WriteKind.TheVariants as WriteKind

@@ -22,7 +22,7 @@ use Rattle.spi.specs.declared.types.Clocked.TheVariants as Clocked
 use Rattle.spi.specs.declared.types.Shift.TheVariants as H
 use Rattle.spi.specs.Frame as F
 use Rattle.spi.specs.Lines.{Event, Rise, Fall, Deed, Wrote, Fetched, Noted, Now, output, bit_served, serve, noted, wrote, fetched, bit_deeds, deeds, Seen, now, left, seen}
-use Rattle.spi.specs.Theorems.Frames.{left_append, seen_append, receiving}
+use Rattle.spi.proofs.Theorems.Frames.{left_append, seen_append, receiving}
 use Rattle.bus.specs.Writes.{deed_writes, edge_writes}
 use Rattle.bus.specs.Theorems.Parts.{absurd_bool}
 use Rattle.bus.specs.Theorems.SpiFrames.{AllFloat}

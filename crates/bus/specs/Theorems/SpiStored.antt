@@ -15,7 +15,7 @@ use Rattle.spi.specs.declared.types.Write.{Write}
 use Rattle.spi.specs.declared.types.Write.TheVariants as W
 use Rattle.spi.specs.Frame as F
 use Rattle.spi.specs.Lines.{output, fetched, past_end, seen, Seen}
-use Rattle.spi.specs.Theorems.Frames.{receiving}
+use Rattle.spi.proofs.Theorems.Frames.{receiving}
 use Rattle.calls.specs.declared.types.Timed.TheVariants as Timed
 use Rattle.calls.specs.declared.types.Call.{Call}
 use Rattle.calls.specs.declared.types.Call.TheVariants as Call

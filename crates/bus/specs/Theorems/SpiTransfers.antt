@@ -16,11 +16,11 @@ use Rattle.spi.specs.Frame as F
 use Rattle.spi.specs.Lines.{Event, Rise, Fall, Deed, Wrote, Now, Seen, now, left, seen}
 use Rattle.spi.specs.Courses.{clocked, write_frame, Pair, Fit, write_frames, Levels8, read_bytes, four_wire_read, three_wire_read, Keeps}
 use Rattle.spi.specs.Answers.{floats, floats_and, taken_answer, address_answer, write_answer, writes_answer, four_wire_answer, three_wire_answer}
-use Rattle.spi.specs.Theorems.Frames.{Serves, write_served, writes_served}
-use Rattle.spi.specs.Theorems.Reads.{four_wire_read_served, three_wire_read_served}
+use Rattle.spi.proofs.Theorems.Frames.{Serves, write_served, writes_served}
+use Rattle.spi.proofs.Theorems.Reads.{four_wire_read_served, three_wire_read_served}
 use Rattle.registers.specs.Map.{SPI4}
 use Rattle.registers.specs.Access.{withheld}
-use Rattle.calls.specs.Theorems.Left as Left
+use Rattle.calls.proofs.Theorems.Left as Left
 use Rattle.calls.specs.declared.types.Call.{Call}
 use Rattle.calls.specs.declared.types.Call.TheVariants as Call
 use Rattle.sensor.specs.declared.types.Sensor.{Sensor}

@@ -18,8 +18,8 @@ use Rattle.i2c.specs.Engine as E
 use Rattle.i2c.specs.Transfers.{clocked, ninth_clock, byte_frame, address_frame}
 use Rattle.i2c.specs.Target.{Target, deed}
 use Rattle.i2c.specs.Answers.{frees, acknowledge, address_answer, register_answer}
-use Rattle.i2c.specs.Theorems.Frames.{and_serves, at, bits_received, write_address_served, register_byte}
-use Rattle.i2c.specs.Theorems.Uses.{uses}
+use Rattle.i2c.proofs.Theorems.Frames.{and_serves, at, bits_received, write_address_served, register_byte}
+use Rattle.i2c.proofs.Theorems.Uses.{uses}
 use Rattle.registers.specs.Access.{stored, begins}
 use Rattle.spi.specs.declared.types.Write.{Write}
 use Rattle.spi.specs.declared.types.Write.TheVariants as Write

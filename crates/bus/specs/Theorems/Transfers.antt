@@ -11,7 +11,7 @@ use Rattle.i2c.specs.declared.types.Phase.TheVariants as P
 use Rattle.i2c.specs.Transfers.{byte_frame, address_frame, broken, nine_clocks, starts, Pair, Bytes, write_transfer, Levels8, read_transfer, combined}
 use Rattle.i2c.specs.Target.{Target, deed, left, seen}
 use Rattle.i2c.specs.Answers.{free, acknowledge, silence, broken_answer, address_answer, register_answer, write_answer, read_answer, read_address_answer}
-use Rattle.i2c.specs.Theorems.Frames.{write_served, read_served, combined_served, broken_register_served, broken_value_served, other_address_silent, nine_clocks_clear}
+use Rattle.i2c.proofs.Theorems.Frames.{write_served, read_served, combined_served, broken_register_served, broken_value_served, other_address_silent, nine_clocks_clear}
 use Rattle.spi.specs.declared.types.Drive.{Drive}
 use Rattle.spi.specs.declared.types.Drive.TheVariants as Drive
 use Rattle.registers.specs.declared.access.Gate.{Gate}

@@ -12,7 +12,7 @@ use Rattle.i2c.specs.declared.types.Step.{Step}
 use Rattle.i2c.specs.declared.types.Action.TheVariants as A
 use Rattle.i2c.specs.Bus.{edge, is_condition}
 use Rattle.i2c.specs.Engine as E
-use Rattle.i2c.specs.Theorems.Quiet.{quiet_aborts, quiet_conditions}
+use Rattle.i2c.proofs.Theorems.Quiet.{quiet_aborts, quiet_conditions}
 use Rattle.deadlines.specs.Deadlines.{is_set}
 use Rattle.calls.specs.declared.types.Timed.TheVariants as Timed
 use Rattle.calls.specs.declared.types.Call.{Call}

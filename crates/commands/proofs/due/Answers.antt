@@ -1,5 +1,5 @@
 use Rattle.commands.specs.Decode.{due}
-use Rattle.commands.specs.Theorems.Laws.{there, missing, moment_drop}
+use Rattle.commands.proofs.Theorems.Laws.{there, missing, moment_drop}
 use borrow.Author.Rules.{rules}
 use Rattle.commands.proofs.due.Goals as goal
 

@@ -6,7 +6,7 @@ use native.Mathlib.Nat.{pow-le-pow_right}
 use lib.Pow.{pow-add}
 use lib.ListN.{length}
 use Rattle.commands.specs.Decode.{number_at}
-use Rattle.commands.specs.Theorems.Laws.{number_none, number_more}
+use Rattle.commands.proofs.Theorems.Laws.{number_none, number_more}
 use Rattle.commands.proofs.number.Goals as goal
 
 -- one byte more, and still eight at most

@@ -4,7 +4,7 @@ use lib.ListN.{get_or}
 use borrow.Author.Tests.{lt-ltb, le-ltb}
 use lib.Seq.{get_or-drop}
 use Rattle.commands.specs.Decode.{pins}
-use Rattle.commands.specs.Theorems.Laws.{there, missing, moment_drop}
+use Rattle.commands.proofs.Theorems.Laws.{there, missing, moment_drop}
 use borrow.Author.Rules.{rules}
 use Rattle.commands.proofs.pins.Goals as goal
 

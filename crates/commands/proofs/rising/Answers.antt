@@ -1,7 +1,7 @@
 use borrow.Author.Tests.{eq-eqb, ne_eqb}
 use lib.Seq.{get_or-drop}
 use Rattle.commands.specs.Decode.{rising}
-use Rattle.commands.specs.Theorems.Laws.{there, missing, moment_drop}
+use Rattle.commands.proofs.Theorems.Laws.{there, missing, moment_drop}
 use borrow.Author.Rules.{rules}
 use Rattle.commands.proofs.rising.Goals as goal
 

@@ -19,7 +19,7 @@ use Rattle.calls.specs.declared.types.Lines.TheVariants as Lines
 use Rattle.calls.specs.declared.types.Facts.{Facts}
 use Rattle.calls.specs.Table as T
 use Rattle.calls.specs.Facts as TF
-use Rattle.calls.specs.Theorems.Exactly.{same_whole}
+use Rattle.calls.proofs.Theorems.Exactly.{same_whole}
 use Rattle.samples.specs.Samples.{interaction_deadline}
 use Rattle.bma150.specs.declared.host.Bma150.{Bma150}
 use Rattle.book.specs.Lists.{accepts}

@@ -14,7 +14,7 @@ use Rattle.deadlines.specs.Deadlines.{is_by}
 use Rattle.spi.specs.declared.types.Frame.{Frame}
 use Rattle.spi.specs.Frame as F
 use Rattle.calls.specs.declared.types.Call.{Call}
-use Rattle.calls.specs.Theorems.Exactly.{same_whole}
+use Rattle.calls.proofs.Theorems.Exactly.{same_whole}
 use Rattle.registers.specs.Map.{at, control, ee_w}
 use Rattle.sensor.specs.declared.types.Operation.{Operation}
 use Rattle.sensor.specs.declared.types.Operation.TheVariants as Operation

@@ -17,7 +17,7 @@ use Rattle.spi.specs.declared.types.Clocked.{Clocked}
 use Rattle.spi.specs.declared.types.Clocked.TheVariants as C
 use Rattle.spi.specs.declared.types.Shift.TheVariants as H
 use Rattle.spi.specs.Frame as F
-use Rattle.spi.specs.Theorems.Frames.{receiving}
+use Rattle.spi.proofs.Theorems.Frames.{receiving}
 use Rattle.calls.specs.declared.types.Timed.TheVariants as Timed
 use Rattle.calls.specs.declared.types.Call.{Call}
 use Rattle.calls.specs.declared.types.Call.TheVariants as Call

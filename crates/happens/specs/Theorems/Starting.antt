@@ -5,7 +5,7 @@ use borrow.Author.Tests.{leb-false}
 use Rattle.std.proofs.lemmas.List.Edits.{length-paste}
 use Rattle.time.specs.declared.Time.{Time}
 use Rattle.calls.specs.declared.types.Starting.{Starting}
-use Rattle.calls.specs.Theorems.Left.{start_clear, start_length}
+use Rattle.calls.proofs.Theorems.Left.{start_clear, start_length}
 use Rattle.calls.specs.Table as T
 use Rattle.sensor.specs.Image.{reset_registers, from_nonvolatile}
 use Rattle.bma150.specs.Called.{measurement_of, start_number, after_start}

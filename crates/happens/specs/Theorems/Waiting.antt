@@ -10,7 +10,7 @@ use Rattle.deadlines.specs.declared.Deadline.{Deadline}
 use Rattle.deadlines.specs.declared.Deadline.TheVariants.{At, Never}
 use Rattle.deadlines.specs.Deadlines.{is_set, is_by, sooner, first, earliest}
 use Rattle.deadlines.specs.declared.Deadlines.{Deadlines}
-use Rattle.deadlines.specs.Theorems.Earliest.{sooner_never}
+use Rattle.deadlines.proofs.Theorems.Earliest.{sooner_never}
 use Rattle.control.specs.Lengths.{acquisition_delay}
 use Rattle.sensor.specs.declared.types.Operation.{Operation}
 use Rattle.sensor.specs.declared.types.Operation.TheVariants as Operation

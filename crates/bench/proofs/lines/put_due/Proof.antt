@@ -1,5 +1,5 @@
 use native.Mathlib.Omega.{arith}
-use Rattle.machine.specs.Theorems.Put.{none, ◌then◌, says}
+use Rattle.machine.proofs.Theorems.Put.{none, ◌then◌, says}
 use Rattle.bench.specs.Text.{due_text}
 use borrow.Author.Rules.{rules}
 use Rattle.bench.proofs.lines.put_due.Statement.{statement}

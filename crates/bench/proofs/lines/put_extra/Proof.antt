@@ -1,5 +1,5 @@
 use native.Mathlib.Omega.{arith}
-use Rattle.machine.specs.Theorems.Put.{none, ◌then◌, says}
+use Rattle.machine.proofs.Theorems.Put.{none, ◌then◌, says}
 use Rattle.bench.specs.Text.{image_text}
 use Rattle.bench.specs.Theorems.Text.{length_hexes}
 use Rattle.bench.specs.Line.{extra_adds, added_text}

@@ -1,5 +1,5 @@
 use native.Mathlib.Omega.{arith}
-use Rattle.machine.specs.Theorems.Put.{none, says}
+use Rattle.machine.proofs.Theorems.Put.{none, says}
 use Rattle.bench.specs.Text.{mark_text}
 use Rattle.bma150.specs.Values.{mark_letter}
 use borrow.Author.Rules.{rules}

@@ -1,5 +1,5 @@
 use native.Mathlib.Omega.{arith}
-use Rattle.machine.specs.Theorems.Put.{◌then◌, says}
+use Rattle.machine.proofs.Theorems.Put.{◌then◌, says}
 use Rattle.bench.specs.Text.{moment_text}
 use Rattle.deadlines.specs.Deadlines.{moment}
 use borrow.Author.Rules.{rules}

@@ -1,5 +1,5 @@
 use native.Mathlib.Omega.{arith}
-use Rattle.machine.specs.Theorems.Put.{◌then◌, says}
+use Rattle.machine.proofs.Theorems.Put.{◌then◌, says}
 use Rattle.bench.specs.Line.{pins}
 use borrow.Author.Rules.{rules}
 use Rattle.bench.proofs.lines.put_pins.Statement.{statement}

@@ -1,5 +1,5 @@
 use native.Mathlib.Omega.{arith}
-use Rattle.machine.specs.Theorems.Put.{says}
+use Rattle.machine.proofs.Theorems.Put.{says}
 use Rattle.bench.specs.Text.{word}
 use Rattle.calls.specs.Table.{refusal_number}
 use borrow.Author.Rules.{rules}

@@ -1,6 +1,6 @@
 use mathlib.Core.Path.{refl}
 use native.Mathlib.Omega.{arith}
-use Rattle.machine.specs.Theorems.Put.{◌then◌, says}
+use Rattle.machine.proofs.Theorems.Put.{◌then◌, says}
 use borrow.Author.Rules.{rules}
 use Rattle.bench.proofs.lines.put_stored.Statement.{statement}
 use Rattle.bench.proofs.lines.put_stored.Tie as tie

@@ -1,5 +1,5 @@
 use native.Mathlib.Omega.{arith}
-use Rattle.machine.specs.Theorems.Put.{◌then◌, says}
+use Rattle.machine.proofs.Theorems.Put.{◌then◌, says}
 use Rattle.bench.specs.Text.{view_text}
 use Rattle.bma150.specs.Values.{view_value}
 use borrow.Author.Rules.{rules}

@@ -4,7 +4,7 @@ use lib.ListN.{replicate}
 use Rattle.calls.specs.Table.{number}
 use Rattle.calls.specs.declared.types.Timed.TheVariants as Timed
 use Rattle.bma150.specs.Called.{timed_adds}
-use Rattle.bma150.specs.Theorems.Added.{reported_is}
+use Rattle.bma150.proofs.Theorems.Added.{reported_is}
 use Rattle.bench.specs.declared.types.Extra.{Extra}
 use Rattle.bench.specs.declared.types.Extra.TheVariants as Extra'
 use Rattle.bench.specs.Line.{extra_adds}

@@ -2,7 +2,7 @@ use Rattle.calls.specs.Table.{number, refusal_number}
 use native.Mathlib.Omega.{arith}
 use Prim.Native.Nat.{◌-◌, ◌≤◌}
 use lib.ListN.{length, length-drop}
-use Rattle.commands.specs.Theorems.More.{image_there}
+use Rattle.commands.proofs.Theorems.More.{image_there}
 use Rattle.bench.specs.Line.{commanded}
 use mathlib.Core.Path.{sym, ◌∙◌}
 use borrow.Author.Rules.{rules}

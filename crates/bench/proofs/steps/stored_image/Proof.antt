@@ -5,7 +5,7 @@ use Rattle.bench.specs.declared.types.Extra.TheVariants as Extra
 use Rattle.bench.specs.Line.{extra_adds}
 use mathlib.Core.Path.{ap}
 use Rattle.calls.specs.Table.{number, refusal_number, unless_refused}
-use Rattle.bma150.specs.Theorems.Added.{buffer_is, image_leaves}
+use Rattle.bma150.proofs.Theorems.Added.{buffer_is, image_leaves}
 use mathlib.Core.Path.{◌∙◌}
 use borrow.Author.Rules.{rules}
 use Rattle.bench.proofs.steps.stored_image.Statement.{statement}

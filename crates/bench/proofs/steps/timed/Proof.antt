@@ -3,7 +3,7 @@ use mathlib.Core.Path.{ap}
 use lib.ListN.{replicate}
 use Rattle.calls.specs.Table.{number, unless_refused}
 use Rattle.bma150.specs.Called.{Added}
-use Rattle.bma150.specs.Theorems.Added.{reported_is}
+use Rattle.bma150.proofs.Theorems.Added.{reported_is}
 use Rattle.bench.specs.declared.types.Extra.{Extra}
 use Rattle.bench.specs.Line.{extra_adds}
 use mathlib.Core.Path.{◌∙◌}

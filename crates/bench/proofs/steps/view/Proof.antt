@@ -1,8 +1,8 @@
 use Rattle.bench.proofs.Laws.{called_is}
 use Rattle.bench.specs.Line.{extra_adds}
 use Rattle.calls.specs.Table.{number}
-use Rattle.calls.specs.Theorems.Left.{view_accepted}
-use Rattle.bma150.specs.Theorems.Added.{view_leaves}
+use Rattle.calls.proofs.Theorems.Left.{view_accepted}
+use Rattle.bma150.proofs.Theorems.Added.{view_leaves}
 use mathlib.Core.Path.{sym}
 use borrow.Author.Rules.{rules}
 use Rattle.bench.proofs.steps.view.Statement.{statement}

@@ -1,4 +1,4 @@
-use Rattle.machine.specs.Theorems.Put.{◌then◌, says}
+use Rattle.machine.proofs.Theorems.Put.{◌then◌, says}
 use borrow.Author.Rules.{rules}
 use Rattle.bench.proofs.text.put_hex.Statement.{statement}
 use Rattle.bench.proofs.text.put_hex.Tie as tie

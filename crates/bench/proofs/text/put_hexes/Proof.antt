@@ -5,7 +5,7 @@ use Prim.Native.Nat.{◌+◌, ◌-◌, ◌≤◌}
 use lib.ListN.{length, take}
 use lib.Seq.{take_all}
 use Rattle.machine.specs.Put.{Put}
-use Rattle.machine.specs.Theorems.Put.{none, ◌then◌, says}
+use Rattle.machine.proofs.Theorems.Put.{none, ◌then◌, says}
 use Rattle.bench.specs.Text.{hexes}
 use Rattle.bench.specs.Theorems.Text.{one_more_hex}
 use Rattle.bench.proofs.text.put_hexes.Statement.{statement}

@@ -5,7 +5,7 @@ use Prim.Native.Nat.{◌+◌, ◌-◌, ◌≤◌}
 use lib.ListN.{length, take}
 use lib.Seq.{take_all}
 use Rattle.machine.specs.Put.{Put}
-use Rattle.machine.specs.Theorems.Put.{none, ◌then◌, says, one_more}
+use Rattle.machine.proofs.Theorems.Put.{none, ◌then◌, says, one_more}
 use Rattle.bench.proofs.text.put_word.Statement.{statement}
 use Rattle.bench.proofs.text.put_word.Tie as tie
 

@@ -1,4 +1,4 @@
-use Rattle.calls.specs.Theorems.Left.{accepted_is, refused_is, start_length}
+use Rattle.calls.proofs.Theorems.Left.{accepted_is, refused_is, start_length}
 use Rattle.bma150.specs.Called.{after_start}
 use mathlib.Core.Path.{sym, ◌∙◌}
 use borrow.Author.Rules.{rules}

@@ -1,4 +1,4 @@
-use Rattle.calls.specs.Theorems.Values.{refused_number}
+use Rattle.calls.proofs.Theorems.Values.{refused_number}
 use Rattle.calls.specs.Table.{number}
 use mathlib.Core.Path.{sym}
 use borrow.Author.Rules.{rules}

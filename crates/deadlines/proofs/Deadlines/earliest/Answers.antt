@@ -1,4 +1,4 @@
-use Rattle.deadlines.specs.Theorems.Earliest.{sooner_never}
+use Rattle.deadlines.proofs.Theorems.Earliest.{sooner_never}
 use Rattle.deadlines.specs.Deadlines.{earliest, first}
 use borrow.Author.Rules.{rules}
 use Rattle.deadlines.proofs.Deadlines.earliest.Goals as goal

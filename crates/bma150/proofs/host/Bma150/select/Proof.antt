@@ -1,4 +1,4 @@
-use Rattle.calls.specs.Theorems.Left.{select_accepted}
+use Rattle.calls.proofs.Theorems.Left.{select_accepted}
 use Rattle.calls.specs.Table.{unless_refused}
 use Rattle.bma150.specs.Called.{leaves}
 use borrow.Author.Rules.{rules}

@@ -1,4 +1,4 @@
-use Rattle.calls.specs.Theorems.Left.{buffer_length}
+use Rattle.calls.proofs.Theorems.Left.{buffer_length}
 use Rattle.calls.specs.Table.{refusal, unless_refused}
 use Rattle.samples.specs.Samples.{interaction_deadline}
 use Rattle.bma150.specs.Called.{adds}

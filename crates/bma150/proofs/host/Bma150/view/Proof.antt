@@ -1,4 +1,4 @@
-use Rattle.calls.specs.Theorems.Left.{view_accepted}
+use Rattle.calls.proofs.Theorems.Left.{view_accepted}
 use Rattle.calls.specs.Table.{unless_refused}
 use Rattle.bma150.specs.Called.{adds}
 use borrow.Author.Rules.{rules}

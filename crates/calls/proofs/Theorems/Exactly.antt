@@ -1,0 +1,323 @@
+-- A call gets number n exactly if n is that of the first fault of 01's table that is there, or 0 where there is none.
+use Rattle.std.specs.Prelude.{ℕ, ◌/◌, ◌%◌, ◌^◌, ◌≤◌, ◌<◌, ◌≡◌, refl, Bool, true, false, not, ◌&&◌, ◌||◌, ◌⊎◌, List, [], ◌∷◌, ltb, eqb, ℤ, pos, negsuc, nat_abs}
+use Rattle.std.proofs.Common.{arith, sym, ap, ◌∙◌, inl, inr, leb-true, le-leb, ltb-true, lt-ltb, eqb-true, eq-eqb, ne_eqb}
+use Rattle.std.specs.Bool.{beq}
+use Rattle.time.specs.declared.Time.{Time}
+use Rattle.time.specs.Time.{ticks}
+use Rattle.i2c.specs.declared.types.Levels.{Levels}
+use Rattle.deadlines.specs.declared.Deadline.{Deadline}
+use Rattle.deadlines.specs.declared.Deadline.TheVariants.{At, Never}
+use Rattle.deadlines.specs.Deadlines.{is_at, is_by}
+use Rattle.calls.specs.declared.types.Timed.{Timed}
+use Rattle.calls.specs.declared.types.Timed.TheVariants as Timed
+use Rattle.calls.specs.declared.types.Call.{Call}
+use Rattle.calls.specs.declared.types.Call.TheVariants as Call
+use Rattle.calls.specs.declared.types.Starting.{Starting}
+use Rattle.calls.specs.declared.types.Starting.TheVariants as Starting
+use Rattle.calls.specs.Facts.{timed_facts, facts}
+use Rattle.calls.specs.Table.{wrong_length, beyond, any_beyond, out_of_range, same_levels, jumps, late, too_late, goes_back, due_by, due_at, before_due, beside_due, reserved, turned_down, rows, start_rows, refusal, start_refusal}
+use Rattle.calls.proofs.Theorems.Left.{clear}
+use Rattle.calls.proofs.Theorems.Found.{never, Fault, fault, First, Tells, Finds, found_first, first_is_found}
+
+-- ---- the faults of 01's table, for each call by its own arguments
+
+-- an axis is beyond ±1,000,000,000
+abbrev pub Beyond : ℤ → Type 0
+Beyond axis = 1000000000 < nat_abs axis
+
+-- next due is at or before this time, and is this time
+abbrev pub DueBy : Deadline → Time → Type 0
+DueBy Never now = ⊥
+DueBy (At d) now = ticks d ≤ ticks now
+
+abbrev pub DueAt : Deadline → Time → Type 0
+DueAt Never now = ⊥
+DueAt (At d) now = ticks d ≡ ticks now
+
+-- 1: the buffer for the stored image is not 19 bytes
+abbrev pub WrongLength : Call → Type 0
+WrongLength (Call.At now t) = ⊥
+WrongLength (Call.Temperature x) = ⊥
+WrongLength (Call.Select on) = ⊥
+WrongLength (Call.View address) = ⊥
+WrongLength (Call.StoredImage now n) = n ≡ 19 → ⊥
+
+-- 3 and 4: the call has a time, and it is so
+abbrev pub HasTime : Call → (Time → Type 0) → Type 0
+HasTime (Call.At now t) So = So now
+HasTime (Call.Temperature x) So = ⊥
+HasTime (Call.Select on) So = ⊥
+HasTime (Call.View address) So = ⊥
+HasTime (Call.StoredImage now n) So = So now
+
+-- 2, 5 and 6: of the timed calls
+abbrev pub AxisBeyond : Timed → Type 0
+AxisBeyond (Timed.Accelerations x y z) = Beyond x ⊎ (Beyond y ⊎ Beyond z)
+AxisBeyond (Timed.Supply rail) = ⊥
+AxisBeyond Timed.Due = ⊥
+AxisBeyond (Timed.Rising mosi) = ⊥
+AxisBeyond Timed.Falling = ⊥
+AxisBeyond (Timed.Pins before after) = ⊥
+
+-- 8: the levels before a pin report are not those after the last accepted one
+abbrev pub Jumps : (lines : Levels) → Timed → Type 0
+Jumps lines (Timed.Accelerations x y z) = ⊥
+Jumps lines (Timed.Supply rail) = ⊥
+Jumps lines Timed.Due = ⊥
+Jumps lines (Timed.Rising mosi) = ⊥
+Jumps lines Timed.Falling = ⊥
+Jumps lines (Timed.Pins before after) = before ≡ lines → ⊥
+
+abbrev pub DueFirst : Deadline → Time → Timed → Type 0
+DueFirst due now (Timed.Accelerations x y z) = DueBy due now
+DueFirst due now (Timed.Supply rail) = DueBy due now
+DueFirst due now Timed.Due = ⊥
+DueFirst due now (Timed.Rising mosi) = DueBy due now
+DueFirst due now Timed.Falling = DueBy due now
+DueFirst due now (Timed.Pins before after) = DueBy due now
+
+abbrev pub NotDue : Deadline → Time → Timed → Type 0
+NotDue due now (Timed.Accelerations x y z) = ⊥
+NotDue due now (Timed.Supply rail) = ⊥
+NotDue due now Timed.Due = DueAt due now → ⊥
+NotDue due now (Timed.Rising mosi) = ⊥
+NotDue due now Timed.Falling = ⊥
+NotDue due now (Timed.Pins before after) = ⊥
+
+abbrev pub IsTimed : Call → (Time → Timed → Type 0) → Type 0
+IsTimed (Call.At now t) So = So now t
+IsTimed (Call.Temperature x) So = ⊥
+IsTimed (Call.Select on) So = ⊥
+IsTimed (Call.View address) So = ⊥
+IsTimed (Call.StoredImage now n) So = ⊥
+
+-- 01's table, in its order
+abbrev pub faults : Time → Deadline → Levels → Call → List Fault
+faults last due lines c =
+    fault 1 (WrongLength c)
+    ∷ fault 3 (HasTime c (λ now. 2 ^ 32 ≤ now.0))
+    ∷ fault 4 (HasTime c (λ now. ticks now < ticks last))
+    ∷ fault 2 (IsTimed c (λ now t. AxisBeyond t))
+    ∷ fault 8 (IsTimed c (λ now t. Jumps lines t))
+    ∷ fault 5 (IsTimed c (λ now t. DueFirst due now t))
+    ∷ fault 6 (IsTimed c (λ now t. NotDue due now t))
+    ∷ []
+
+-- 9: bits 4..3 of the byte of register 14 are 3, or bits 2..0 are 7; command 0c's start does not have it
+abbrev pub Reserved : ℕ → Type 0
+Reserved measurement = (measurement / 8 % 4 ≡ 3) ⊎ (measurement % 8 ≡ 7)
+
+abbrev pub TurnedDown : Starting → ℕ → Type 0
+TurnedDown Starting.Checked measurement = Reserved measurement
+TurnedDown Starting.Stored measurement = ⊥
+
+-- a start: 1, 9, 3
+abbrev pub start_faults : Starting → Time → (length measurement : ℕ) → List Fault
+start_faults by now length measurement = fault 1 (length ≡ 19 → ⊥) ∷ fault 9 (TurnedDown by measurement) ∷ fault 3 (2 ^ 32 ≤ now.0) ∷ []
+
+-- ---- the tests of the table find exactly these
+
+length_only : (n : ℕ) → not (eqb n 19) ≡ true → n ≡ 19 → ⊥
+length_only n p e = never (sym (ap not (eq-eqb n 19 e)) ∙ p)
+
+length_whole : (n : ℕ) → (n ≡ 19 → ⊥) → not (eqb n 19) ≡ true
+length_whole n p = ap not (ne_eqb n 19 p)
+
+axis_only : (axis : ℤ) → beyond axis ≡ true → Beyond axis
+unfolding beyond
+axis_only (pos n) p = ltb-true 1000000000 n (go (ltb 1000000000 n) p)
+  where
+    go : (b : Bool) → (b || false) ≡ true → b ≡ true
+    go true q = refl
+    go false q = q
+axis_only (negsuc n) p = let q : 999999999 < n = ltb-true 999999999 n p in omega arith
+
+axis_whole : (axis : ℤ) → Beyond axis → beyond axis ≡ true
+unfolding beyond
+axis_whole (pos n) p = ap (λ (b : Bool). b || false) (lt-ltb 1000000000 n p)
+axis_whole (negsuc n) p = lt-ltb 999999999 n (omega arith)
+
+either_only : {P Q : Type 0} (a b : Bool) → (a ≡ true → P) → (b ≡ true → Q) → (a || b) ≡ true → P ⊎ Q
+either_only true b p q e = inl (p refl)
+either_only false b p q e = inr (q e)
+
+either_left : (a b : Bool) → a ≡ true → (a || b) ≡ true
+either_left true b e = refl
+either_left false b e = never e
+
+either_right : (a b : Bool) → b ≡ true → (a || b) ≡ true
+either_right true b e = refl
+either_right false b e = e
+
+axes_only : (x y z : ℤ) → any_beyond x y z ≡ true → Beyond x ⊎ (Beyond y ⊎ Beyond z)
+unfolding any_beyond
+axes_only x y z p = either_only (beyond x) (beyond y || beyond z) (axis_only x) (either_only (beyond y) (beyond z) (axis_only y) (axis_only z)) p
+
+axes_whole : (x y z : ℤ) → Beyond x ⊎ (Beyond y ⊎ Beyond z) → any_beyond x y z ≡ true
+unfolding any_beyond
+axes_whole x y z (inl p) = either_left (beyond x) _ (axis_whole x p)
+axes_whole x y z (inr (inl p)) = either_right (beyond x) _ (either_left (beyond y) _ (axis_whole y p))
+axes_whole x y z (inr (inr p)) = either_right (beyond x) _ (either_right (beyond y) _ (axis_whole z p))
+
+by_only : (due : Deadline) (now : Time) → is_by due now ≡ true → DueBy due now
+unfolding is_by
+by_only Never now p = never p
+by_only (At d) now p = leb-true (ticks d) (ticks now) p
+
+by_whole : (due : Deadline) (now : Time) → DueBy due now → is_by due now ≡ true
+unfolding is_by
+by_whole Never now p = absurd p
+by_whole (At d) now p = le-leb (ticks d) (ticks now) p
+
+at_only : (due : Deadline) (now : Time) → is_at due now ≡ true → DueAt due now
+unfolding is_at
+at_only Never now p = never p
+at_only (At d) now p = eqb-true (ticks d) (ticks now) p
+
+at_whole : (due : Deadline) (now : Time) → DueAt due now → is_at due now ≡ true
+unfolding is_at
+at_whole Never now p = absurd p
+at_whole (At d) now p = eq-eqb (ticks d) (ticks now) p
+
+not_only : {P : Type 0} (b : Bool) → (P → b ≡ true) → not b ≡ true → P → ⊥
+not_only true f e p = never e
+not_only false f e p = never (f p)
+
+not_whole : {P : Type 0} (b : Bool) → (b ≡ true → P) → (P → ⊥) → not b ≡ true
+not_whole true f g = absurd (g (f refl))
+not_whole false f g = refl
+
+-- a test that does not apply
+never_tells : Tells ⊥ false
+never_tells = record { only = never; whole = absurd }
+
+length_tells : (n : ℕ) → Tells (n ≡ 19 → ⊥) (not (eqb n 19))
+length_tells n = record { only = length_only n; whole = length_whole n }
+
+late_tells : (now : Time) → Tells (2 ^ 32 ≤ now.0) (late now)
+unfolding late
+late_tells now = record { only = leb-true (2 ^ 32) now.0; whole = le-leb (2 ^ 32) now.0 }
+
+back_tells : (last now : Time) → Tells (ticks now < ticks last) (ltb (ticks now) (ticks last))
+back_tells last now = record { only = ltb-true (ticks now) (ticks last); whole = lt-ltb (ticks now) (ticks last) }
+
+by_tells : (due : Deadline) (now : Time) → Tells (DueBy due now) (is_by due now)
+by_tells due now = record { only = by_only due now; whole = by_whole due now }
+
+not_at_tells : (due : Deadline) (now : Time) → Tells (DueAt due now → ⊥) (not (is_at due now))
+not_at_tells due now = record { only = not_only (is_at due now) (at_whole due now); whole = not_whole (is_at due now) (at_only due now) }
+
+axes_tell : (x y z : ℤ) → Tells (Beyond x ⊎ (Beyond y ⊎ Beyond z)) (any_beyond x y z)
+axes_tell x y z = record { only = axes_only x y z; whole = axes_whole x y z }
+
+reserved_whole : (m : ℕ) → Reserved m → reserved m ≡ true
+unfolding reserved
+reserved_whole m (inl p) = either_left (eqb (m / 8 % 4) 3) _ (eq-eqb (m / 8 % 4) 3 p)
+reserved_whole m (inr p) = either_right (eqb (m / 8 % 4) 3) _ (eq-eqb (m % 8) 7 p)
+
+reserved_only : (m : ℕ) → reserved m ≡ true → Reserved m
+unfolding reserved
+reserved_only m = either_only (eqb (m / 8 % 4) 3) (eqb (m % 8) 7) (eqb-true (m / 8 % 4) 3) (eqb-true (m % 8) 7)
+
+turned_down_tells : (by : Starting) (m : ℕ) → Tells (TurnedDown by m) (turned_down by m)
+unfolding turned_down
+turned_down_tells Starting.Checked m = record { only = reserved_only m; whole = reserved_whole m }
+turned_down_tells Starting.Stored m = never_tells
+
+-- two levels that are the same, line by line
+same_lines : (lines before : Levels) → (lines.scl ≡ before.scl) → (lines.sda ≡ before.sda) → before ≡ lines
+same_lines lines before p q =
+    sym (ap {B = Levels} (λ (x : Bool). record { scl = x; sda = lines.sda }) p ∙ ap {B = Levels} (λ (x : Bool). record { scl = before.scl; sda = x }) q)
+
+same_only : (lines before : Levels) → same_levels lines before ≡ true → before ≡ lines
+same_only lines before p = go lines.scl before.scl lines.sda before.sda refl refl refl refl p
+  where
+    go : (a b c d : Bool) → lines.scl ≡ a → before.scl ≡ b → lines.sda ≡ c → before.sda ≡ d → (beq a b && beq c d) ≡ true → before ≡ lines
+    go true true true true e f g h p = same_lines lines before (e ∙ sym f) (g ∙ sym h)
+    go true true true false e f g h p = never p
+    go true true false true e f g h p = never p
+    go true true false false e f g h p = same_lines lines before (e ∙ sym f) (g ∙ sym h)
+    go true false c d e f g h p = never p
+    go false true c d e f g h p = never p
+    go false false true true e f g h p = same_lines lines before (e ∙ sym f) (g ∙ sym h)
+    go false false true false e f g h p = never p
+    go false false false true e f g h p = never p
+    go false false false false e f g h p = same_lines lines before (e ∙ sym f) (g ∙ sym h)
+
+level_same : (b : Bool) → beq b b ≡ true
+level_same true = refl
+level_same false = refl
+
+pub same_whole : (lines before : Levels) → before ≡ lines → same_levels lines before ≡ true
+same_whole lines before e =
+    ap (λ (l : Levels). same_levels lines l) e ∙ rw (level_same lines.scl, level_same lines.sda)
+
+jump_tells : (lines before : Levels) → Tells (before ≡ lines → ⊥) (not (same_levels lines before))
+jump_tells lines before =
+    record { only = not_only (same_levels lines before) (same_whole lines before); whole = not_whole (same_levels lines before) (same_only lines before) }
+
+module _ (last : Time) (due : Deadline) (lines : Levels) where
+  abbrev Found : Call → Type 0
+  Found c = Finds (record { last = last; due = due; lines = lines; call = facts c }) rows (faults last due lines c)
+
+  -- what the seven tests find of a call
+  found : (c : Call)
+      → Tells (WrongLength c) (wrong_length (facts c).bytes)
+      → Tells (HasTime c (λ now. 2 ^ 32 ≤ now.0)) (too_late (facts c).time)
+      → Tells (HasTime c (λ now. ticks now < ticks last)) (goes_back last (facts c).time)
+      → Tells (IsTimed c (λ now t. AxisBeyond t)) (out_of_range (facts c).axes)
+      → Tells (IsTimed c (λ now t. Jumps lines t)) (jumps lines (facts c).lines)
+      → Tells (IsTimed c (λ now t. DueFirst due now t)) (before_due due (facts c).kind (facts c).time)
+      → Tells (IsTimed c (λ now t. NotDue due now t)) (beside_due due (facts c).kind (facts c).time)
+      → Found c
+  found c length limit back axis jump due_first not_due = ((refl, length), ((refl, limit), ((refl, back), ((refl, axis), ((refl, jump), ((refl, due_first), ((refl, not_due), tt)))))))
+
+  timed_found : (now : Time) (t : Timed) → Found (Call.At now t)
+  unfolding facts timed_facts wrong_length too_late goes_back out_of_range jumps before_due beside_due due_by due_at
+  timed_found now (Timed.Accelerations x y z) = found (Call.At now (Timed.Accelerations x y z)) never_tells (late_tells now) (back_tells last now) (axes_tell x y z) never_tells (by_tells due now) never_tells
+  timed_found now (Timed.Supply rail) = found (Call.At now (Timed.Supply rail)) never_tells (late_tells now) (back_tells last now) never_tells never_tells (by_tells due now) never_tells
+  timed_found now Timed.Due = found (Call.At now Timed.Due) never_tells (late_tells now) (back_tells last now) never_tells never_tells never_tells (not_at_tells due now)
+  timed_found now (Timed.Rising mosi) = found (Call.At now (Timed.Rising mosi)) never_tells (late_tells now) (back_tells last now) never_tells never_tells (by_tells due now) never_tells
+  timed_found now Timed.Falling = found (Call.At now Timed.Falling) never_tells (late_tells now) (back_tells last now) never_tells never_tells (by_tells due now) never_tells
+  timed_found now (Timed.Pins before after) = found (Call.At now (Timed.Pins before after)) never_tells (late_tells now) (back_tells last now) never_tells (jump_tells lines before) (by_tells due now) never_tells
+
+  finds : (c : Call) → Found c
+  unfolding facts wrong_length too_late goes_back out_of_range jumps before_due beside_due
+  finds (Call.At now t) = timed_found now t
+  finds (Call.Temperature x) = found (Call.Temperature x) never_tells never_tells never_tells never_tells never_tells never_tells never_tells
+  finds (Call.Select on) = found (Call.Select on) never_tells never_tells never_tells never_tells never_tells never_tells never_tells
+  finds (Call.View address) = found (Call.View address) never_tells never_tells never_tells never_tells never_tells never_tells never_tells
+  finds (Call.StoredImage now n) = found (Call.StoredImage now n) (length_tells n) (late_tells now) (back_tells last now) never_tells never_tells never_tells never_tells
+
+  -- the number that a call gets is that of the first fault, or 0
+  pub refused_only : (c : Call) → First (faults last due lines c) (refusal last due lines c)
+  unfolding refusal
+  refused_only c = found_first _ rows (faults last due lines c) (finds c)
+
+  -- and it gets the number of the first fault, or 0
+  pub refused_whole : (c : Call) (n : ℕ) → First (faults last due lines c) n → refusal last due lines c ≡ n
+  unfolding refusal
+  refused_whole c n p = first_is_found _ rows (faults last due lines c) (finds c) n p
+
+module _ (by : Starting) (now : Time) (length measurement : ℕ) where
+  start_finds : Finds (record { by = by; time = now; length = length; measurement = measurement }) start_rows (start_faults by now length measurement)
+  unfolding wrong_length
+  start_finds = ((refl, length_tells length), ((refl, turned_down_tells by measurement), ((refl, late_tells now), tt)))
+
+  pub start_refused_only : First (start_faults by now length measurement) (start_refusal by now length measurement)
+  unfolding start_refusal
+  start_refused_only = found_first _ start_rows (start_faults by now length measurement) start_finds
+
+  pub start_refused_whole : (n : ℕ) → First (start_faults by now length measurement) n → start_refusal by now length measurement ≡ n
+  unfolding start_refusal
+  start_refused_whole n p = first_is_found _ start_rows (start_faults by now length measurement) start_finds n p
+
+-- so an accepted pin report follows on
+is_true : (b : Bool) → not b ≡ false → b ≡ true
+is_true true e = refl
+is_true false e = never (sym e)
+
+pub follows_on : (last : Time) (due : Deadline) (lines : Levels) (now : Time) (before after : Levels) → eqb (refusal last due lines (Call.At now (Timed.Pins before after))) 0 ≡ true → before ≡ lines
+unfolding facts timed_facts jumps
+follows_on last due lines now before after e =
+    same_only lines before (is_true (same_levels lines before) (clear last due lines (Call.At now (Timed.Pins before after)) e).1.1.1.1.0)

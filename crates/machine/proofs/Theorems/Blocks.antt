@@ -1,0 +1,167 @@
+-- A block is so many turns of the whole run; and what the loop over a block has done so far.
+use Rattle.std.specs.Prelude.{◌≡◌, Bool, cond, ◌⊎◌, ltb, drop, get_or}
+use Rattle.std.proofs.Math.Path.{refl, ap}
+use Rattle.std.proofs.Common.{sym, ◌∙◌}
+use Rattle.std.proofs.Math.Bool.{true, false}
+use Rattle.std.proofs.Math.Logic.{inl, inr}
+use mathlib.Core.List.{List, [], ◌++◌, append-nil}
+use Prim.Native.Nat.{ℕ, zero, suc, ◌+◌, ◌-◌, ◌≤◌, ◌<◌}
+use native.Mathlib.Omega.{arith}
+use borrow.Author.Tests.{lt-ltb, le-ltb, ltb-true, ltb-false}
+use Rattle.std.proofs.Math.ListN.{length, length-drop}
+use Rattle.std.proofs.Math.Seq.{drop-drop}
+use Rattle.laws.specs.Iterate.{iterate, iterate_split}
+use Rattle.machine.specs.Put.{Put}
+use Rattle.machine.specs.Machine.{Took, Machine, Running, running, turn, Lawful}
+use Rattle.machine.specs.Block.{least, pace, block}
+use Rattle.machine.proofs.Theorems.Put.{none, ◌then◌}
+use Rattle.machine.proofs.Theorems.Turns.{Goes, stay, and_then, one, turn_at}
+use Rattle.machine.proofs.Theorems.Settles.{never_more, settle}
+
+-- ---- a turn takes a byte or changes nothing
+
+pub stopped_turn : {S : Type 0} (m : Machine S) (b : Running S) → b.stop ≡ true → turn m b ≡ b
+unfolding turn
+stopped_turn m b e = rw e
+
+twice : {A : Type 0} (t : Bool) (a : A) → cond t a a ≡ a
+twice true a = refl
+twice false a = refl
+
+module _ {S : Type 0} {m : Machine S} (laws : Lawful m) where
+  by_stop : (b : Running S) (z t : Bool) → b.stop ≡ z → ltb 0 (length b.left) ≡ t → (turn m b ≡ b) ⊎ (length (turn m b).left + 1 ≤ length b.left)
+  unfolding turn
+  by_stop b true t e g = inl (rw e)
+  by_stop b false false e g = inl (rw (e, g))
+  by_stop b false true e g = inr (rw (e, g, length-drop) (omega (arith, laws.takes_some b.state b.left, ltb-true 0 (length b.left) g)))
+
+  pub turn_falls : (b : Running S) → (turn m b ≡ b) ⊎ (length (turn m b).left + 1 ≤ length b.left)
+  turn_falls b = by_stop b b.stop (ltb 0 (length b.left)) refl refl
+
+  -- a command's bytes that must be there are one at least
+  pub least_some : (over : Bool) (l : List ℕ) → 0 < least m over l
+  unfolding least
+  least_some true l = omega arith
+  least_some false l = laws.wants_some (get_or l 0 0)
+
+-- ---- when a block goes on
+
+module _ {S : Type 0} (m : Machine S) (over : Bool) (b : Running S) where
+  pub pace_short : length b.left < least m over b.left → pace m over b ≡ b
+  unfolding pace
+  pace_short h = rw (lt-ltb (length b.left) (least m over b.left) h)
+
+  pub pace_full : m.room < length b.text → pace m over b ≡ b
+  unfolding pace
+  pace_full h = rw (lt-ltb m.room (length b.text) h) (twice (ltb (length b.left) (least m over b.left)) b)
+
+  pub pace_turn : least m over b.left ≤ length b.left → length b.text ≤ m.room → pace m over b ≡ turn m b
+  unfolding pace
+  pace_turn h k = rw (le-ltb (length b.left) (least m over b.left) h, le-ltb m.room (length b.text) k)
+
+  pub pace_stopped : turn m b ≡ b → pace m over b ≡ b
+  unfolding pace
+  pace_stopped e = rw (e, twice (ltb m.room (length b.text)) b) (twice (ltb (length b.left) (least m over b.left)) b)
+
+  by_tests : Lawful m → (x y : Bool) → ltb (length b.left) (least m over b.left) ≡ x → ltb m.room (length b.text) ≡ y
+      → (pace m over b ≡ b) ⊎ (length (pace m over b).left + 1 ≤ length b.left)
+  by_tests laws true y e g = inl (pace_short (ltb-true (length b.left) (least m over b.left) e))
+  by_tests laws false true e g = inl (pace_full (ltb-true m.room (length b.text) g))
+  by_tests laws false false e g =
+      rw (pace_turn (ltb-false (length b.left) (least m over b.left) e) (ltb-false m.room (length b.text) g)) (turn_falls laws b)
+
+  pace_falls : Lawful m → (pace m over b ≡ b) ⊎ (length (pace m over b).left + 1 ≤ length b.left)
+  pace_falls laws = by_tests laws (ltb (length b.left) (least m over b.left)) (ltb m.room (length b.text)) refl refl
+
+-- ---- what the loop over a block has done so far: the bytes up to `at` are read, and the text stands in the buffer up to p
+
+pub record Upto {S : Type 0} (m : Machine S) (over : Bool) (s : S) (input d e : List ℕ) (n : S) (at p : ℕ) (z : Bool) : Type 0 where
+  pub turns : ℕ
+  pub text : List ℕ
+  pub is : iterate turns (pace m over) (running s input [] false) ≡ running n (drop at input) text z
+  pub bytes : Put d 0 text e p
+
+pub begun : {S : Type 0} {m : Machine S} {over : Bool} {s : S} {input d : List ℕ} → Upto m over s input d d s 0 0 false
+unfolding iterate
+begun = record { turns = 0; text = []; is = refl; bytes = none }
+
+module _ {S : Type 0} {m : Machine S} (laws : Lawful m) {over : Bool} {s : S} {input d e : List ℕ} {n : S} {at p : ℕ} where
+  -- a further command
+  pub went : {f : List ℕ} {q : ℕ} (k : Took S) → Upto m over s input d e n at p false → least m over (drop at input) ≤ length input - at → p ≤ m.room
+      → k ≡ m.takes n (drop at input) → Put e p k.said f q → Upto m over s input d f k.state (at + k.size) q k.stop
+  unfolding iterate
+  went k b g fits ek w =
+      let l : least m over (drop at input) ≤ length (drop at input) = simp length-drop (omega arith) in
+      let some : 0 < length (drop at input) = omega (arith, least_some laws over (drop at input)) in
+      let fill : length b.text ≤ m.room = omega (arith, b.bytes.next) in
+      record {
+        turns = suc b.turns;
+        text = b.text ++ k.said;
+        is = ap (pace m over) b.is
+            ∙ pace_turn m over (running n (drop at input) b.text false) l fill
+            ∙ turn_at m n (drop at input) b.text some
+            ∙ rw (sym ek, drop-drop k.size at input);
+        bytes = b.bytes then w;
+      }
+
+  -- the loop is left: the block is done
+  pub block_is : {z : Bool} (b : Upto m over s input d e n at p z) → pace m over (running n (drop at input) b.text z) ≡ running n (drop at input) b.text z
+      → block m over s input ≡ running n (drop at input) b.text z
+  unfolding block
+  block_is {z} b h = settle (pace m over) (λ c. pace_falls m over c laws) (running s input [] false) (running n (drop at input) b.text z) b.turns b.is h
+
+-- ---- a block takes a command that it may take
+
+module _ {S : Type 0} {m : Machine S} (laws : Lawful m) (over : Bool) (s : S) (l : List ℕ) where
+  abbrev start : Running S
+  start = running s l [] false
+
+  pub block_takes : least m over l ≤ length l → length (block m over s l).left + 1 ≤ length l
+  unfolding block iterate
+  block_takes h =
+      let some : 0 < length l = omega (arith, least_some laws over l) in
+      let e : length l ≡ 1 + (length l - 1) = omega arith in
+      let fits : length start.text ≤ m.room = omega arith in
+      let first : pace m over start ≡ turn m start = pace_turn m over start h fits in
+      let less : length (pace m over start).left + 1 ≤ length l = rw (first, turn_at m s l [] some, length-drop) (omega (arith, laws.takes_some s l)) in
+      let same : block m over s l ≡ iterate (length l - 1) (pace m over) (pace m over start) = ap (λ (k : ℕ). iterate k (pace m over) start) e ∙ iterate_split 1 (length l - 1) (pace m over) start in
+      rw same (omega (arith, less, never_more (pace m over) (λ c. pace_falls m over c laws) (length l - 1) (pace m over start)))
+
+-- ---- a block is so many turns of the whole run, whatever follows its input while more comes
+
+-- nothing follows once the input is over
+abbrev pub Follows : Bool → List ℕ → Type 0
+Follows true k = k ≡ []
+Follows false k = Unit {0}
+
+module _ {S : Type 0} {m : Machine S} (laws : Lawful m) where
+  same_command : (over : Bool) (s : S) (l k : List ℕ) → Follows over k → least m over l ≤ length l → m.takes s (l ++ k) ≡ m.takes s l
+  unfolding least
+  same_command true s l k f h = rw (f, append-nil)
+  same_command false s l k f h = laws.whole_is_known s l k h
+
+  module _ (over : Bool) (k : List ℕ) (follows : Follows over k) (s : S) (l : List ℕ) where
+    abbrev So : Running S → Type 0
+    So b = Goes m s (l ++ k) b.text b.state (b.left ++ k) b.stop
+
+    next : (q : S) (j u : List ℕ) (z x y : Bool) → ltb (length j) (least m over j) ≡ x → ltb m.room (length u) ≡ y
+        → So (running q j u z) → So (pace m over (running q j u z))
+    next q j u true x y e g w = rw (pace_stopped m over (running q j u true) (stopped_turn m (running q j u true) refl)) w
+    next q j u false true y e g w = rw (pace_short m over (running q j u false) (ltb-true (length j) (least m over j) e)) w
+    next q j u false false true e g w = rw (pace_full m over (running q j u false) (ltb-true m.room (length u) g)) w
+    next q j u false false false e g w =
+        let a : least m over j ≤ length j = ltb-false (length j) (least m over j) e in
+        let some : 0 < length j = omega (arith, least_some laws over j) in
+        rw (pace_turn m over (running q j u false) a (ltb-false m.room (length u) g), turn_at m q j u some)
+        (and_then w (one laws q j k some (same_command over q j k follows a)))
+
+    goes : (n : ℕ) → So (iterate n (pace m over) (running s l [] false))
+    unfolding iterate
+    goes zero = stay
+    goes (suc n) =
+        let b : Running S = iterate n (pace m over) (running s l [] false) in
+        next b.state b.left b.text b.stop (ltb (length b.left) (least m over b.left)) (ltb m.room (length b.text)) refl refl (goes n)
+
+    pub block_goes : So (block m over s l)
+    unfolding block
+    block_goes = goes (length l)
