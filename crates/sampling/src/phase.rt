@@ -16,6 +16,7 @@ use registers::fields::{
     OPERATION, SELF_TEST_1, STATUS, TEMP, WAKE_UP, has, range,
 };
 
+#[tactic(auto, unfolding(crate::specs::Phase::axis_input))]
 fn axis_input(input: Input, axis: u8) -> i32
     ensures { result ≡ P.axis_input input axis }
 {
@@ -28,6 +29,7 @@ fn axis_input(input: Input, axis: u8) -> i32
     input.z
 }
 
+#[tactic(auto, unfolding(crate::specs::Phase::converted))]
 fn converted(registers: &[u8; 62], acceleration: i64, axis: u8) -> i16
     requires { axis < 3 }
     ensures { result ≡ P.converted registers.now acceleration axis }
@@ -45,6 +47,7 @@ fn converted(registers: &[u8; 62], acceleration: i64, axis: u8) -> i16
     )
 }
 
+#[tactic(auto, unfolding(crate::specs::Phase::all_new))]
 fn all_new(registers: [u8; 62]) -> bool
     ensures { result ≡ P.all_new registers }
 {
@@ -56,6 +59,7 @@ fn all_new(registers: [u8; 62]) -> bool
     false
 }
 
+#[tactic(auto, unfolding(crate::specs::Phase::ready))]
 fn ready(registers: [u8; 62], old: bool) -> bool
     ensures { result ≡ P.ready registers old }
 {
@@ -76,6 +80,7 @@ fn one_more(cycles: u16) -> u16
     65535
 }
 
+#[tactic(auto, unfolding(crate::specs::Phase::test_counted))]
 fn test_counted(test: Test) -> Test
     ensures { result ≡ P.test_counted test }
 {
@@ -207,6 +212,7 @@ fn measured(
 }
 
 // The scan is complete: it is counted, and observed for motion.
+#[tactic(auto, unfolding(crate::specs::Phase::observed, crate::specs::Phase::observing, crate::specs::Phase::interval))]
 fn scanned(registers: &[u8; 62], t: AcquisitionScalars, needs: [u8; 4]) -> AcquisitionScalars
     ensures { (h : List ℤ) → Split.joined registers.now h result ≡ P.observed (P.counted (Split.joined registers.now h t)) needs }
 {
@@ -236,6 +242,7 @@ fn test_ended(registers: &mut [u8; 62], t: AcquisitionScalars) -> AcquisitionSca
     t.with_test(Test::Off)
 }
 
+#[tactic(auto, unfolding(crate::specs::Phase::axis_phase, crate::specs::Phase::scanned))]
 fn axis_phase(
     registers: &mut [u8; 62],
     history: &mut [i16; 192],
@@ -268,6 +275,7 @@ fn axis_phase(
 }
 
 // The phase of the clock's last edge.
+#[tactic(auto, unfolding(crate::specs::Phase::sample_phase))]
 fn sample_phase(
     registers: &mut [u8; 62],
     history: &mut [i16; 192],
@@ -289,6 +297,7 @@ fn sample_phase(
 }
 
 // A millisecond passes at every twelfth edge.
+#[tactic(auto, unfolding(crate::specs::Phase::ticked, crate::specs::Phase::ticks_now, crate::specs::Phase::observing))]
 fn ticked(registers: &[u8; 62], t: AcquisitionScalars) -> AcquisitionScalars
     ensures { (h : List ℤ) → Split.joined registers.now h result ≡ P.ticked (Split.joined registers.now h t) }
 {
@@ -307,6 +316,7 @@ fn ticked(registers: &[u8; 62], t: AcquisitionScalars) -> AcquisitionScalars
 }
 
 // The clock's next edge: its phase, and the millisecond.
+#[tactic(auto, unfolding(crate::specs::Phase::sample))]
 fn sample(
     registers: &mut [u8; 62],
     history: &mut [i16; 192],
@@ -325,6 +335,7 @@ fn sample(
 
 impl Acquisition {
     // The phases of n edges, one after the other.
+    #[tactic(auto, unfolding(laws::specs::Iterate::iterate))]
     pub fn samples(self, n: u64, input: Input, needs: [u8; 4]) -> Acquisition
         ensures { result ≡ P.samples n self input needs }
     {

@@ -29,6 +29,7 @@ impl Sampling {
         self.with_analog(a.resume(now))
     }
 
+    #[tactic(auto, unfolding(crate::specs::Stage::held))]
     pub fn hold(self, now: Time, input: Input) -> Sampling
         ensures { result ≡ S.held self now input }
     {
@@ -39,6 +40,7 @@ impl Sampling {
         self.with_analog(a.hold(now, input.x, input.y, input.z))
     }
 
+    #[tactic(auto, unfolding(crate::specs::Stage::turned))]
     pub fn turn(self, now: Time, input: Input, x: i32, y: i32, z: i32) -> Sampling
         ensures { result ≡ S.turned self now input x y z }
     {

@@ -1,0 +1,25 @@
+use Prim.Native.Nat.{ℕ, ◌-◌}
+use mathlib.Core.Bool.{cond}
+use mathlib.Core.List.{List}
+use lib.Dec.{eqb}
+use Rattle.sampling.specs.declared.types.Input.{Input}
+use Rattle.sampling.specs.declared.types.Test.{Test}
+use Rattle.sampling.specs.declared.types.Test.TheVariants.{Off}
+use mathlib.Core.Path.{◌≡◌, ap, ◌∙◌}
+use borrow.Author.Tests.{eq-eqb, ne_eqb}
+use Rattle.sampling.specs.declared.types.Acquisition.{Acquisition}
+use Rattle.sampling.specs.Phase.{axis_phase, scanned, observed, counted, measured}
+use borrow.Author.Rules.{rules}
+use Rattle.sampling.proofs.phase.axis_phase.Goals as goal
+
+-- without a self test the axis is measured, and after z the scan is complete
+off : (test : Test) (c d : Acquisition) (input : Input) (phase : ℕ) (rules : List ℕ) → test ≡ Off
+    → d ≡ cond (eqb (phase - 1) 2) (observed (counted (measured c input (phase - 1))) rules) (measured c input (phase - 1))
+    → d ≡ axis_phase test c input phase rules
+unfolding axis_phase scanned
+off test c d input phase rules t e = rw t e
+
+pub returns-then-left-eq0 : goal.returns-then-left-eq0
+unfolding axis_phase
+returns-then-left-eq0 c =
+    rw (c.in-Phases.is, eq-eqb _ _ c.if-left-eq0.true, eq-eqb _ _ c.if-phase-eq3.true) (c.test_ended.ensures _)
