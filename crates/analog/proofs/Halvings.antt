@@ -3,7 +3,8 @@ use Rattle.std.proofs.Common.{◌≡◌, ℕ, zero, suc, ◌+◌, ◌-◌, ◌*�
 use native.Mathlib.Nat.{pow-succ'}
 use Rattle.laws.specs.Iterate.{iterate}
 use Rattle.analog.specs.Decay.{unit, rate, settling, term, terms, series, squared, reduced}
-use Rattle.analog.specs.Theorems.Bounds.{Below, terms_small, squares_small, reduced_stays, reduced_halves, angle_small}
+use Rattle.analog.specs.Theorems.Bounds.{Below}
+use Rattle.analog.proofs.Theorems.Bounds.{terms_small, squares_small, reduced_stays, reduced_halves, angle_small}
 
 -- one step more, taken first or last
 pub iterate_first : {A : Type 0} (n : ℕ) (f : A → A) (x : A) → iterate n f (f x) ≡ iterate (n + 1) f x

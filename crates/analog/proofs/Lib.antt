@@ -1,3 +1,4 @@
+pub mod Theorems
 pub mod Columns
 pub mod Products
 pub mod Signs

@@ -10,8 +10,8 @@ use Rattle.analog.specs.declared.types.Series.{Series}
 use Rattle.analog.specs.Round.{round}
 use Rattle.analog.specs.Wide.{signed}
 use Rattle.analog.specs.Decay.{unit}
-use Rattle.analog.specs.Theorems.Near.{abs_neg, round_signed, abs_round}
-use Rattle.analog.specs.Theorems.Sizes.{abs_add, abs_sub}
+use Rattle.analog.proofs.Theorems.Near.{abs_neg, round_signed, abs_round}
+use Rattle.analog.proofs.Theorems.Sizes.{abs_add, abs_sub}
 use Rattle.analog.proofs.Signs.{signed_times}
 
 -- ---- records of equal fields

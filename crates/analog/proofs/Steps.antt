@@ -14,9 +14,9 @@ use Rattle.analog.specs.Round.{round, bits_64, signed_64, low_64}
 use Rattle.analog.specs.Wide.{signed}
 use Rattle.analog.specs.Decay.{unit, factors}
 use Rattle.analog.specs.Axis.{same, settled, resumed, stepped, advanced}
-use Rattle.analog.specs.Theorems.Near.{abs_neg, round_signed}
-use Rattle.analog.specs.Theorems.Lands.{same_true, same_refl}
-use Rattle.analog.specs.Theorems.Sizes.{abs_add, abs_sub, abs_mul_le, low_keeps_abs}
+use Rattle.analog.proofs.Theorems.Near.{abs_neg, round_signed}
+use Rattle.analog.proofs.Theorems.Lands.{same_true, same_refl}
+use Rattle.analog.proofs.Theorems.Sizes.{abs_add, abs_sub, abs_mul_le, low_keeps_abs}
 use Rattle.analog.proofs.Signs.{bits_add, bits_minus, bits_lt, signed_fits, sign_size}
 use Rattle.analog.proofs.Sizes.{fits_in, back}
 

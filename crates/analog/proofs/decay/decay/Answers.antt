@@ -1,7 +1,7 @@
 use Rattle.std.proofs.Common.{◌<◌, sym, ap, ◌∙◌}
 use Rattle.laws.specs.Iterate.{iterate}
 use Rattle.analog.specs.Decay.{settling, squared, reduced}
-use Rattle.analog.specs.Theorems.Bounds.{decay_nothing, decay_keeps}
+use Rattle.analog.proofs.Theorems.Bounds.{decay_nothing, decay_keeps}
 use Rattle.analog.proofs.Halvings.{all_below}
 use Rattle.analog.proofs.decay.decay.Goals as goal
 

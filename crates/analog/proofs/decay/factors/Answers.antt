@@ -1,8 +1,8 @@
 use Rattle.std.proofs.Common.{sym, ap, ◌∙◌}
 use Rattle.time.specs.Time.{lasts}
 use Rattle.analog.specs.Decay.{factors}
-use Rattle.analog.specs.Theorems.Bounds.{decay_nothing}
-use Rattle.analog.specs.Theorems.Common.{one_of_two, factors_are_decay, factors_common}
+use Rattle.analog.proofs.Theorems.Bounds.{decay_nothing}
+use Rattle.analog.proofs.Theorems.Common.{one_of_two, factors_are_decay, factors_common}
 use Rattle.analog.proofs.Halvings.{long, short}
 use Rattle.analog.proofs.decay.factors.Goals as goal
 

@@ -1,7 +1,7 @@
 use Rattle.std.proofs.Common.{◌≡◌, ℕ, ◌-◌, ◌*◌, ◌^◌, ◌≤◌, sym, refl, ap, ◌∙◌, arith, lit≤, w64, to_z, of_z}
 use Rattle.analog.specs.declared.types.Series.{Series}
 use Rattle.analog.specs.Decay.{term, terms}
-use Rattle.analog.specs.Theorems.Bounds.{terms_small}
+use Rattle.analog.proofs.Theorems.Bounds.{terms_small}
 use Rattle.analog.proofs.Sizes.{factors_is, back}
 use Rattle.analog.proofs.Halvings.{terms_next, terms_held, lt_thirteen, thirteen}
 use Rattle.analog.proofs.decay.series.Goals as goal

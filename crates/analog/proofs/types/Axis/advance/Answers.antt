@@ -4,7 +4,7 @@ use Rattle.time.specs.declared.Duration.{Duration}
 use Rattle.time.specs.Time.{lasts, since}
 use Rattle.analog.specs.Decay.{factors}
 use Rattle.analog.specs.Axis.{settled, stepped}
-use Rattle.analog.specs.Theorems.Bounds.{factors_small}
+use Rattle.analog.proofs.Theorems.Bounds.{factors_small}
 use Rattle.analog.proofs.Steps.{advanced_settled, advanced_still, advanced_steps, no_length, some_low, some_high}
 use Rattle.analog.proofs.types.Axis.advance.Goals as goal
 use Rattle.analog.proofs.types.Axis.advance.Goals.{then-d-eq0+else-d-eq0-2, else-d-eq0}

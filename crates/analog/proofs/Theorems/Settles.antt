@@ -13,9 +13,10 @@ use Rattle.analog.specs.declared.types.Axis.{Axis}
 use Rattle.analog.specs.Round.{round, low_64, bits_64, signed_64}
 use Rattle.analog.specs.Decay.{unit, period, term, terms, squared, reduced, decay, factors}
 use Rattle.analog.specs.Axis.{target, settled, resumed, stepped, advanced, value}
-use Rattle.analog.specs.Theorems.Sizes.{div_mono, abs_add, abs_sub, abs_mul_le, abs_round_le, low_keeps_abs}
-use Rattle.analog.specs.Theorems.Common.{common_pair, factors_common, samples_apart}
-use Rattle.analog.specs.Theorems.Lands.{target_size, settled_true, same_refl, same_parts, value_target}
+use Rattle.analog.proofs.Theorems.Sizes.{div_mono, abs_add, abs_sub, abs_mul_le, abs_round_le, low_keeps_abs}
+use Rattle.analog.specs.Theorems.Common.{common_pair}
+use Rattle.analog.proofs.Theorems.Common.{factors_common, samples_apart}
+use Rattle.analog.proofs.Theorems.Lands.{target_size, settled_true, same_refl, same_parts, value_target}
 
 -- the axis advances at each moment of a list, with one input
 unfoldable pub followed : Axis → List Time → (input : ℤ) → Axis

@@ -5,7 +5,7 @@ use Rattle.std.proofs.lemmas.Bool.{false≢true}
 use Rattle.std.proofs.Math.Nat.{le-max_left, le-max_right, le-suc_iff}
 use Rattle.std.specs.Int.Signed.{mag}
 use Rattle.analog.specs.Round.{round, bits_64, signed_64, low_64}
-use Rattle.analog.specs.Theorems.Near.{abs_subℕ, abs_neg, abs_round}
+use Rattle.analog.proofs.Theorems.Near.{abs_subℕ, abs_neg, abs_round}
 
 -- a quotient grows with its dividend
 pub div_mono : (a b d : ℕ) → 0 < d → a ≤ b → a / d ≤ b / d

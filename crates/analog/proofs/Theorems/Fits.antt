@@ -12,10 +12,11 @@ use Rattle.analog.specs.declared.types.Axis.{Axis}
 use Rattle.analog.specs.Round.{round, low_64}
 use Rattle.analog.specs.Decay.{unit, rate, settling, term, terms, series, squared, decay, factors}
 use Rattle.analog.specs.Axis.{signal, target, stepped, value}
-use Rattle.analog.specs.Theorems.Near.{abs_neg}
-use Rattle.analog.specs.Theorems.Sizes.{div_mono, abs_add, abs_sub, abs_mul_le, abs_round_le, abs_squares, low_keeps_abs}
-use Rattle.analog.specs.Theorems.Bounds.{Below, Small, terms_small, squares_small, factors_small, halved, reduced_stays, angle_small, decay_keeps}
-use Rattle.analog.specs.Theorems.Lands.{target_size}
+use Rattle.analog.proofs.Theorems.Near.{abs_neg}
+use Rattle.analog.proofs.Theorems.Sizes.{div_mono, abs_add, abs_sub, abs_mul_le, abs_round_le, abs_squares, low_keeps_abs}
+use Rattle.analog.specs.Theorems.Bounds.{Below}
+use Rattle.analog.proofs.Theorems.Bounds.{Small, terms_small, squares_small, factors_small, halved, reduced_stays, angle_small, decay_keeps}
+use Rattle.analog.proofs.Theorems.Lands.{target_size}
 
 -- a number, with h more, is one of 128 bits
 abbrev pub Room : (h : ℕ) → ℤ → Type 0

@@ -4,7 +4,7 @@ use Rattle.laws.specs.Notation.{if◌then◌else◌}
 use Rattle.time.specs.declared.Time.{Time}
 use Rattle.analog.specs.declared.types.Axis.{Axis}
 use Rattle.analog.specs.Axis.{same, advanced, turned}
-use Rattle.analog.specs.Theorems.Lands.{same_true, same_refl}
+use Rattle.analog.proofs.Theorems.Lands.{same_true, same_refl}
 
 -- the same input: nothing moves
 pub turned_same : (a : Axis) (now : Time) (old new : ℤ) → old ≡ new → turned a now old new ≡ a

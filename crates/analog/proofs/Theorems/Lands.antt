@@ -13,10 +13,10 @@ use Rattle.analog.specs.declared.types.Axis.{Axis}
 use Rattle.analog.specs.Round.{round, low_64, bits_64, signed_64}
 use Rattle.analog.specs.Decay.{unit, settling, factors, nothing}
 use Rattle.analog.specs.Axis.{signal, target, same, settled, resumed, stepped, advanced, value}
-use Rattle.analog.specs.Theorems.Near.{round_pos, round_signed}
-use Rattle.analog.specs.Theorems.Sizes.{abs_mul, low_keeps, low_keeps_abs, both_true}
-use Rattle.analog.specs.Theorems.Bounds.{decay_nothing}
-use Rattle.analog.specs.Theorems.Common.{factors_are_decay}
+use Rattle.analog.proofs.Theorems.Near.{round_pos, round_signed}
+use Rattle.analog.proofs.Theorems.Sizes.{abs_mul, low_keeps, low_keeps_abs, both_true}
+use Rattle.analog.proofs.Theorems.Bounds.{decay_nothing}
+use Rattle.analog.proofs.Theorems.Common.{factors_are_decay}
 
 -- neither of two tests holds
 neither : (a b : Bool) → a || b ≡ false → (a ≡ false) × (b ≡ false)
