@@ -27,7 +27,7 @@ use Rattle.waits.specs.Supply as BU
 use Rattle.waits.specs.Due as BD
 use Rattle.bma150.specs.declared.host.Bma150.{Bma150}
 use Rattle.bma150.specs.Called as C
-use Rattle.analog.specs.Theorems.Settles.{advanced_at}
+use Rattle.analog.proofs.Theorems.Settles.{advanced_at}
 use Rattle.book.specs.Lists.{Start, started, after, accepted}
 
 -- the stock sensor at time 0

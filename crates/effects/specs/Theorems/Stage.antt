@@ -15,7 +15,7 @@ use Rattle.time.specs.Theorems.Edges.{within}
 use Rattle.analog.specs.declared.types.Axis.{Axis}
 use Rattle.analog.specs.declared.types.Analog.{Analog}
 use Rattle.analog.specs.Axis as A
-use Rattle.analog.specs.Theorems.Settles.{advanced_at}
+use Rattle.analog.proofs.Theorems.Settles.{advanced_at}
 use Rattle.sampling.specs.declared.types.Input.{Input}
 use Rattle.sampling.specs.declared.types.Test.{Test}
 use Rattle.sampling.specs.declared.types.Test.TheVariants.{Off, Phases}
