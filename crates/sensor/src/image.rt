@@ -15,6 +15,7 @@ use sampling::types::{Input, Sampling, Test};
 use spi::types::Frame;
 use time::{Clock, Duration, Time};
 
+#[tactic(auto, unfolding(crate::specs::Image::cell_byte))]
 pub fn cell_byte(image: [u8; 19], address: u8) -> u8
     ensures { result ≡ Im.cell_byte image address }
 {
@@ -24,6 +25,7 @@ pub fn cell_byte(image: [u8; 19], address: u8) -> u8
     0
 }
 
+#[tactic(auto, unfolding(crate::specs::Image::with_cell))]
 pub fn with_cell(image: [u8; 19], address: u8, value: u8) -> [u8; 19]
     ensures { result ≡ Im.with_cell image address value }
 {
@@ -35,6 +37,7 @@ pub fn with_cell(image: [u8; 19], address: u8, value: u8) -> [u8; 19]
     i
 }
 
+#[tactic(auto, unfolding(crate::specs::Image::image_at))]
 fn image_at(operation: Operation, image: [u8; 19], now: Time) -> [u8; 19]
     ensures { result ≡ Im.image_at operation image now }
 {
@@ -61,6 +64,7 @@ fn image_copied(registers: [u8; 62], image: [u8; 19]) -> [u8; 62]
     r
 }
 
+#[tactic(auto, unfolding(crate::specs::Image::shadowing))]
 pub fn shadowing(reads: Reads, byte: u8) -> Reads
     ensures { result ≡ Im.shadowing reads byte }
 {

@@ -39,6 +39,7 @@ fn cleared(sampling: Sampling, now: Time) -> Sampling
     g
 }
 
+#[tactic(auto, unfolding(crate::specs::Mode::reset_time))]
 fn reset_time(asleep: bool) -> Duration
     ensures { result ≡ C.reset_time asleep }
 {
@@ -71,6 +72,7 @@ impl Sensor {
         pause_length(wake_up_pause(self.registers[OPERATION]), pauses())
     }
 
+    #[tactic(auto, unfolding(crate::specs::Mode::pause_end))]
     fn pause_end(self, now: Time) -> Deadline
         ensures { result ≡ C.pause_end self now }
     {
@@ -99,6 +101,7 @@ impl Sensor {
     }
 
     // The hold of automatic mode, new data, or a criterion.
+    #[tactic(auto, unfolding(crate::specs::Mode::interrupt))]
     pub fn interrupt(self) -> bool
         ensures { result ≡ C.interrupt self }
     {
@@ -116,6 +119,7 @@ impl Sensor {
     }
 
     // Whether a scan of new data shows.
+    #[tactic(auto, unfolding(crate::specs::Mode::shows_new_data))]
     fn shows_new_data(self) -> bool
         ensures { result ≡ C.shows_new_data self }
     {
@@ -135,6 +139,7 @@ impl Sensor {
         i.output(registers)
     }
 
+    #[tactic(auto, unfolding(crate::specs::Mode::pause_restarted))]
     fn pause_restarted(self, now: Time) -> Sensor
         ensures { result ≡ C.pause_restarted self now }
     {
@@ -147,6 +152,7 @@ impl Sensor {
         self
     }
 
+    #[tactic(auto, unfolding(crate::specs::Mode::interrupt_held))]
     fn interrupt_held(self, now: Time, was_criterion: bool) -> Sensor
         ensures { result ≡ C.interrupt_held self now was_criterion }
     {
@@ -196,6 +202,7 @@ impl Sensor {
         may_pause(verify, self.activity())
     }
 
+    #[tactic(auto, unfolding(crate::specs::Mode::pause_if_idle))]
     fn pause_if_idle(self, now: Time, verify: bool) -> Sensor
         ensures { result ≡ C.pause_if_idle self now verify }
     {
@@ -215,6 +222,7 @@ impl Sensor {
         s
     }
 
+    #[tactic(auto, unfolding(crate::specs::Mode::automatic_control))]
     pub fn automatic_control(self, now: Time, was_criterion: bool, verify: bool) -> Sensor
         ensures { result ≡ C.automatic_control self now was_criterion verify }
     {

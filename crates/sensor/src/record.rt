@@ -31,6 +31,7 @@ fn with_byte(registers: [u8; 62], address: u8, value: u8) -> [u8; 62]
     r
 }
 
+#[tactic(auto, unfolding(crate::specs::Record::runs))]
 pub fn runs(operation: Operation) -> bool
     ensures { result ≡ Rec.runs operation }
 {
@@ -40,6 +41,7 @@ pub fn runs(operation: Operation) -> bool
     }
 }
 
+#[tactic(auto, unfolding(crate::specs::Record::tests))]
 pub fn tests(test: Test) -> bool
     ensures { result ≡ Rec.tests test }
 {

@@ -28,6 +28,7 @@ fn is_mean(means: [bool; 3], axis: u8) -> bool
 }
 
 impl Sensor {
+    #[tactic(auto, unfolding(crate::specs::RegisterReads::shown))]
     fn shown(self, address: u8) -> u8
         ensures { result ≡ B.shown self address }
     {
@@ -39,6 +40,7 @@ impl Sensor {
         byte_at(registers, address)
     }
 
+    #[tactic(auto, unfolding(crate::specs::RegisterReads::peek))]
     pub fn peek(self, address: u8) -> View
         ensures { result ≡ B.peek self address }
     {
@@ -49,6 +51,7 @@ impl Sensor {
     }
 
     // The mark of an acceleration's register.
+    #[tactic(auto, unfolding(crate::specs::RegisterReads::mark))]
     fn mark(self, address: u8) -> Mark
         ensures { result ≡ B.mark self address }
     {
@@ -63,6 +66,7 @@ impl Sensor {
         Mark::Single
     }
 
+    #[tactic(auto, unfolding(crate::specs::RegisterReads::mark_of))]
     fn mark_of(self, view: View, address: u8) -> Mark
         ensures { result ≡ B.mark_of view self address }
     {
@@ -98,6 +102,7 @@ impl Sensor {
         )
     }
 
+    #[tactic(auto, unfolding(crate::specs::RegisterReads::fetched))]
     fn fetched(self, view: View, address: u8) -> Fetched
         ensures { result ≡ B.fetched view self address }
     {
@@ -145,6 +150,7 @@ impl Sensor {
         s
     }
 
+    #[tactic(auto, unfolding(crate::specs::RegisterReads::counts_as_read))]
     fn counts_as_read(self, address: u8) -> bool
         ensures { result ≡ B.counts_as_read self address }
     {
@@ -158,6 +164,7 @@ impl Sensor {
         is_acceleration(address)
     }
 
+    #[tactic(auto, unfolding(crate::specs::RegisterReads::byte_read))]
     fn byte_read(self, tx: Sent, address: u8) -> Sensor
         ensures { result ≡ B.byte_read tx self address }
     {

@@ -18,6 +18,7 @@ impl Sensor {
         s
     }
 
+    #[tactic(auto, unfolding(crate::specs::Select::selected_to))]
     fn selected_to(self, selected: bool) -> Sensor
         ensures { result ≡ Sel.selected_to self selected }
     {
@@ -28,6 +29,7 @@ impl Sensor {
         self
     }
 
+    #[tactic(auto, unfolding(crate::specs::Select::may_select))]
     fn may_select(self, selected: bool) -> bool
         ensures { result ≡ Sel.may_select self selected }
     {

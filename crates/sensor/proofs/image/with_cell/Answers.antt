@@ -1,0 +1,18 @@
+use Rattle.sensor.proofs.Laws.{stored_from, stored_to}
+use native.Mathlib.Omega.{arith}
+use Rattle.sensor.specs.Image.{with_cell}
+use mathlib.Core.Path.{sym, ◌∙◌}
+use borrow.Author.Rules.{rules}
+use Rattle.sensor.proofs.image.with_cell.Goals as goal
+
+pub overflow_sub-i : goal.overflow_sub-i
+overflow_sub-i c =
+    let a = c.args.address in
+    let h = sym c.stored.ensures ∙ c.if-stored.true in
+    omega (arith, stored_from a h, stored_to a h)
+
+pub bounds-i-address : goal.bounds-i-address
+bounds-i-address c =
+    let a = c.args.address in
+    let h = sym c.stored.ensures ∙ c.if-stored.true in
+    omega (arith, stored_from a h, stored_to a h)
