@@ -10,6 +10,7 @@ use sampling::types::Acquisition;
 use sensor::types::{Operation, Sensor};
 use time::Time;
 
+#[tactic(auto, unfolding(crate::specs::Samples::write_end))]
 fn write_end(operation: Operation) -> Deadline
     ensures { result ≡ S.write_end operation }
 {
@@ -19,6 +20,7 @@ fn write_end(operation: Operation) -> Deadline
     }
 }
 
+#[tactic(auto, unfolding(crate::specs::Samples::limit))]
 fn limit(end: Time, inclusive: bool) -> Time
     ensures { result ≡ S.limit end inclusive }
 {
@@ -28,6 +30,7 @@ fn limit(end: Time, inclusive: bool) -> Time
     end
 }
 
+#[tactic(auto, unfolding(crate::specs::Samples::samples_run))]
 pub fn samples_run(sensor: Sensor) -> bool
     ensures { result ≡ S.samples_run sensor }
 {
@@ -43,6 +46,7 @@ pub fn samples_run(sensor: Sensor) -> bool
     !wake.is_set()
 }
 
+#[tactic(auto, unfolding(crate::specs::Samples::next_sample))]
 pub fn next_sample(sensor: Sensor) -> Deadline
     ensures { result ≡ S.next_sample sensor }
 {
@@ -54,6 +58,7 @@ pub fn next_sample(sensor: Sensor) -> Deadline
     Deadline::Never
 }
 
+#[tactic(auto, unfolding(crate::specs::Samples::sample_due))]
 fn sample_due(sensor: Sensor, samples: bool) -> Deadline
     ensures { result ≡ S.sample_due sensor samples }
 {
@@ -63,6 +68,7 @@ fn sample_due(sensor: Sensor, samples: bool) -> Deadline
     Deadline::Never
 }
 
+#[tactic(auto, unfolding(crate::specs::Samples::next_deadline))]
 fn next_deadline(sensor: Sensor, samples: bool) -> Deadline
     ensures { result ≡ S.next_deadline sensor samples }
 {
@@ -115,6 +121,7 @@ fn edges_until(sensor: Sensor, end: Time, inclusive: bool) -> u64
     c.edges_before(limit(end, inclusive))
 }
 
+#[tactic(auto, unfolding(crate::specs::Samples::caught_up))]
 fn caught_up(sensor: Sensor, end: Time, n: u64) -> Sensor
     ensures { result ≡ S.caught_up sensor end n }
 {
@@ -125,6 +132,7 @@ fn caught_up(sensor: Sensor, end: Time, n: u64) -> Sensor
     s.automatic_control(end, false, false)
 }
 
+#[tactic(auto, unfolding(crate::specs::Samples::samples_on_demand))]
 fn samples_on_demand(sensor: Sensor) -> bool
     ensures { result ≡ S.samples_on_demand sensor }
 {
@@ -134,6 +142,7 @@ fn samples_on_demand(sensor: Sensor) -> bool
     samples_run(sensor)
 }
 
+#[tactic(auto, unfolding(crate::specs::Samples::sync_local_until))]
 pub fn sync_local_until(sensor: Sensor, end: Time, inclusive: bool) -> Sensor
     ensures { result ≡ S.sync_local_until sensor end inclusive }
 {

@@ -14,6 +14,7 @@ use sensor::image::shadowing;
 use sensor::types::{Operation, Sensor, Writing};
 use time::{Duration, Time};
 
+#[tactic(auto, unfolding(crate::specs::Write::recounted))]
 fn recounted(sensor: Sensor, again: bool) -> Sensor
     ensures { result ≡ W.recounted sensor again }
 {
@@ -45,6 +46,7 @@ fn interrupts_reset(sensor: Sensor) -> Sensor
     recounted(s, again)
 }
 
+#[tactic(auto, unfolding(crate::specs::Write::interrupts_written))]
 fn interrupts_written(sensor: Sensor, value: u8) -> Sensor
     ensures { result ≡ W.interrupts_written sensor value }
 {
@@ -54,6 +56,7 @@ fn interrupts_written(sensor: Sensor, value: u8) -> Sensor
     sensor
 }
 
+#[tactic(auto, unfolding(crate::specs::Write::tested))]
 fn tested(sensor: Sensor, t: SelfTest) -> Sensor
     ensures { result ≡ W.tested t sensor }
 {
@@ -73,6 +76,7 @@ fn tested(sensor: Sensor, t: SelfTest) -> Sensor
     }
 }
 
+#[tactic(auto, unfolding(crate::specs::Write::slept))]
 fn slept(sensor: Sensor, z: Sleep, now: Time) -> Sensor
     ensures { result ≡ W.slept z sensor now }
 {
@@ -83,6 +87,7 @@ fn slept(sensor: Sensor, z: Sleep, now: Time) -> Sensor
     }
 }
 
+#[tactic(auto, unfolding(crate::specs::Write::image_written))]
 fn image_written(sensor: Sensor, value: u8, now: Time) -> Sensor
     ensures { result ≡ W.image_written sensor value now }
 {
@@ -126,6 +131,7 @@ fn measurement_written(sensor: Sensor, value: u8) -> Sensor
     s
 }
 
+#[tactic(auto, unfolding(crate::specs::Write::mode_written))]
 fn mode_written(sensor: Sensor, turns: bool) -> Sensor
     ensures { result ≡ W.mode_written sensor turns }
 {
@@ -159,6 +165,7 @@ fn durations_written(sensor: Sensor, address: u8, value: u8) -> Sensor
     s
 }
 
+#[tactic(auto, unfolding(crate::specs::Write::register_effect))]
 fn register_effect(sensor: Sensor, w: WriteKind, address: u8, value: u8, now: Time) -> Sensor
     ensures { result ≡ W.register_effect w sensor address value now }
 {
@@ -194,6 +201,7 @@ fn then_automatic(sensor: Sensor, w: WriteKind, address: u8, value: u8, now: Tim
     s.automatic_control(now, was, false)
 }
 
+#[tactic(auto, unfolding(crate::specs::Write::write_effect))]
 fn write_effect(sensor: Sensor, w: WriteKind, address: u8, value: u8, now: Time) -> Sensor
     ensures { result ≡ W.write_effect w sensor address value now }
 {
