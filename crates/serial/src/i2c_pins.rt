@@ -10,6 +10,7 @@ use spi::types::Sent;
 use time::Time;
 use writes::write::write_register;
 
+#[tactic(auto, unfolding(crate::specs::I2cPins::i2c_listens))]
 pub fn i2c_listens(sensor: Sensor) -> bool
     ensures { result ≡ Z.i2c_listens sensor }
 {
@@ -23,6 +24,7 @@ pub fn i2c_listens(sensor: Sensor) -> bool
     !sensor.serial_not_ready()
 }
 
+#[tactic(auto, unfolding(crate::specs::I2cPins::ones_for))]
 pub fn ones_for(tx: Sent) -> u8
     ensures { result ≡ Z.ones_for tx }
 {
@@ -65,6 +67,7 @@ fn launched(f: Fetched) -> Sensor
     s
 }
 
+#[tactic(auto, unfolding(crate::specs::I2cPins::acted))]
 fn acted(sensor: Sensor, action: Action, now: Time) -> Sensor
     ensures { result ≡ Z.acted action sensor now }
 {
@@ -90,6 +93,7 @@ fn stepped(sensor: Sensor, t: Step, now: Time) -> Sensor
     acted(s, action, now)
 }
 
+#[tactic(auto, unfolding(crate::specs::I2cPins::i2c_pins))]
 fn i2c_pins(sensor: Sensor, e: Edge, now: Time) -> Sensor
     ensures { result ≡ Z.i2c_pins sensor e now }
 {
@@ -105,6 +109,7 @@ fn i2c_pins(sensor: Sensor, e: Edge, now: Time) -> Sensor
     s
 }
 
+#[tactic(auto, unfolding(crate::specs::I2cPins::pins_synced))]
 pub fn pins_synced(sensor: Sensor, e: Edge, now: Time) -> Sensor
     ensures { result ≡ Z.pins_synced sensor e now }
 {

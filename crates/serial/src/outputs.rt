@@ -5,6 +5,7 @@ ghost use Rattle.serial.specs.Outputs as Out;
 use sensor::types::Sensor;
 use spi::types::Drive;
 
+#[tactic(auto, unfolding(crate::specs::Outputs::spi_drives))]
 pub fn spi_drives(sensor: Sensor) -> bool
     ensures { result ≡ Out.spi_drives sensor }
 {
@@ -23,6 +24,7 @@ pub fn spi_drives(sensor: Sensor) -> bool
 }
 
 // The four-wire output.
+#[tactic(auto, unfolding(crate::specs::Outputs::output))]
 pub fn output(sensor: Sensor) -> Drive
     ensures { result ≡ Out.output sensor }
 {
@@ -36,6 +38,7 @@ pub fn output(sensor: Sensor) -> Drive
     Drive::Floating
 }
 
+#[tactic(auto, unfolding(crate::specs::Outputs::i2c_holds))]
 pub fn i2c_holds(sensor: Sensor) -> bool
     ensures { result ≡ Out.i2c_holds sensor }
 {
@@ -54,6 +57,7 @@ pub fn i2c_holds(sensor: Sensor) -> bool
 }
 
 // The data pin.
+#[tactic(auto, unfolding(crate::specs::Outputs::data_output))]
 pub fn data_output(sensor: Sensor) -> Drive
     ensures { result ≡ Out.data_output sensor }
 {

@@ -18,6 +18,7 @@ fn showing(f: Fetched) -> Sensor
     s
 }
 
+#[tactic(auto, unfolding(crate::specs::SpiEdges::moved))]
 fn moved(sensor: Sensor, shift: Shift) -> Sensor
     ensures { result ≡ Z.moved shift sensor }
 {
@@ -41,6 +42,7 @@ fn shift_output(sensor: Sensor, at: Clocked) -> Sensor
     moved(sensor, f.shifts(at, sensor.four_wire()))
 }
 
+#[tactic(auto, unfolding(crate::specs::SpiEdges::first_bit_taken))]
 fn first_bit_taken(sensor: Sensor, a: FirstBit) -> Sensor
     ensures { result ≡ Z.first_bit_taken a sensor }
 {
@@ -50,6 +52,7 @@ fn first_bit_taken(sensor: Sensor, a: FirstBit) -> Sensor
     }
 }
 
+#[tactic(auto, unfolding(crate::specs::SpiEdges::write_done))]
 fn write_done(sensor: Sensor, w: Write, now: Time) -> Sensor
     ensures { result ≡ Z.write_done w sensor now }
 {
@@ -89,6 +92,7 @@ fn turned(sensor: Sensor) -> Sensor
     shift_output(s, Clocked::Turnaround)
 }
 
+#[tactic(auto, unfolding(crate::specs::SpiEdges::spi_listens))]
 pub fn spi_listens(sensor: Sensor) -> bool
     ensures { result ≡ Z.spi_listens sensor }
 {
@@ -102,6 +106,7 @@ pub fn spi_listens(sensor: Sensor) -> bool
     false
 }
 
+#[tactic(auto, unfolding(crate::specs::SpiEdges::rising_effect))]
 fn rising_effect(sensor: Sensor, mosi: bool, now: Time) -> Sensor
     ensures { result ≡ Z.rising_effect sensor mosi now }
 {
@@ -115,6 +120,7 @@ fn rising_effect(sensor: Sensor, mosi: bool, now: Time) -> Sensor
     sensor
 }
 
+#[tactic(auto, unfolding(crate::specs::SpiEdges::rise_synced))]
 pub fn rise_synced(sensor: Sensor, now: Time) -> Sensor
     ensures { result ≡ Z.rise_synced sensor now }
 {
@@ -134,6 +140,7 @@ pub fn rising_at(sensor: Sensor, mosi: bool, now: Time) -> Sensor
     rising_effect(s, mosi, now)
 }
 
+#[tactic(auto, unfolding(crate::specs::SpiEdges::fall_synced))]
 fn fall_synced(sensor: Sensor, now: Time) -> Sensor
     ensures { result ≡ Z.fall_synced sensor now }
 {
@@ -146,6 +153,7 @@ fn fall_synced(sensor: Sensor, now: Time) -> Sensor
     sensor
 }
 
+#[tactic(auto, unfolding(crate::specs::SpiEdges::falling_effect))]
 fn falling_effect(sensor: Sensor) -> Sensor
     ensures { result ≡ Z.falling_effect sensor }
 {

@@ -11,6 +11,7 @@ use sensor::types::{Operation, Sensor};
 use time::{Clock, Duration, Time};
 
 // Automatic mode verifies at the end of a scan or of a hold.
+#[tactic(auto, unfolding(crate::specs::Due::verifies))]
 fn verifies(sample: bool, scan: bool, hold_ended: bool) -> bool
     ensures { result ≡ D.verifies sample scan hold_ended }
 {
@@ -37,6 +38,7 @@ fn waits_ended(sensor: Sensor, now: Time) -> Sensor
     s
 }
 
+#[tactic(auto, unfolding(crate::specs::Due::pause_ended))]
 fn pause_ended(sensor: Sensor, now: Time) -> Sensor
     ensures { result ≡ D.pause_ended sensor now }
 {
@@ -59,6 +61,7 @@ fn completed(sensor: Sensor, address: u8, value: u8) -> Served
     }
 }
 
+#[tactic(auto, unfolding(crate::specs::Due::write_ended))]
 fn write_ended(sensor: Sensor, operation: Operation, now: Time) -> Served
     ensures { result ≡ D.write_ended operation sensor now }
 {
@@ -84,6 +87,7 @@ fn image_loaded(sensor: Sensor) -> Sensor
     s
 }
 
+#[tactic(auto, unfolding(crate::specs::Due::image_ended))]
 fn image_ended(sensor: Sensor, now: Time) -> Sensor
     ensures { result ≡ D.image_ended sensor now }
 {
@@ -95,6 +99,7 @@ fn image_ended(sensor: Sensor, now: Time) -> Sensor
     sensor
 }
 
+#[tactic(auto, unfolding(crate::specs::Due::wake_ended))]
 fn wake_ended(sensor: Sensor, now: Time) -> Sensor
     ensures { result ≡ D.wake_ended sensor now }
 {
@@ -119,6 +124,7 @@ fn sample_due_now(sensor: Sensor, now: Time) -> bool
     d.is_at(now)
 }
 
+#[tactic(auto, unfolding(crate::specs::Due::sample_ended))]
 fn sample_ended(sensor: Sensor, now: Time) -> Sensor
     ensures { result ≡ D.sample_ended sensor now }
 {

@@ -9,6 +9,7 @@ use sensor::image::{cell_byte, with_cell};
 use sensor::types::{Operation, Sensor, Supply, Writing};
 use time::{Duration, Time};
 
+#[tactic(auto, unfolding(crate::specs::Supply::outage))]
 fn outage(since: Deadline, now: Time) -> Duration
     ensures { result ≡ Sup.outage since now }
 {
@@ -42,6 +43,7 @@ pub fn write_over(sensor: Sensor, address: u8, value: u8) -> Sensor
     s
 }
 
+#[tactic(auto, unfolding(crate::specs::Supply::cut))]
 fn cut(sensor: Sensor, operation: Operation, now: Time) -> Served
     ensures { result ≡ Sup.cut operation sensor now }
 {
@@ -100,6 +102,7 @@ fn power_off(sensor: Sensor, now: Time, cold: bool) -> Served
     }
 }
 
+#[tactic(auto, unfolding(crate::specs::Supply::zero_while_off))]
 fn zero_while_off(sensor: Sensor, zero_volt: bool) -> Sensor
     ensures { result ≡ Sup.zero_while_off sensor zero_volt }
 {
@@ -117,6 +120,7 @@ fn zero_while_off(sensor: Sensor, zero_volt: bool) -> Sensor
     sensor
 }
 
+#[tactic(auto, unfolding(crate::specs::Supply::reacquired))]
 fn reacquired(sensor: Sensor, now: Time) -> Sensor
     ensures { result ≡ Sup.reacquired sensor now }
 {
@@ -143,6 +147,7 @@ fn warm_return(sensor: Sensor, now: Time) -> Sensor
     reacquired(s, now)
 }
 
+#[tactic(auto, unfolding(crate::specs::Supply::returned))]
 fn returned(sensor: Sensor, now: Time) -> Sensor
     ensures { result ≡ Sup.returned sensor now }
 {
@@ -153,6 +158,7 @@ fn returned(sensor: Sensor, now: Time) -> Sensor
     warm_return(sensor, now)
 }
 
+#[tactic(auto, unfolding(crate::specs::Supply::supply_low))]
 fn supply_low(sensor: Sensor, zero_volt: bool, now: Time) -> Served
     ensures { result ≡ Sup.supply_low sensor zero_volt now }
 {
@@ -163,6 +169,7 @@ fn supply_low(sensor: Sensor, zero_volt: bool, now: Time) -> Served
     power_off(sensor, now, zero_volt)
 }
 
+#[tactic(auto, unfolding(crate::specs::Supply::supply_ok))]
 fn supply_ok(sensor: Sensor, now: Time) -> Sensor
     ensures { result ≡ Sup.supply_ok sensor now }
 {
@@ -172,6 +179,7 @@ fn supply_ok(sensor: Sensor, now: Time) -> Sensor
     sensor
 }
 
+#[tactic(auto, unfolding(crate::specs::Supply::set_supply))]
 pub fn set_supply(sensor: Sensor, rail: u16, now: Time) -> Served
     ensures { result ≡ Sup.set_supply sensor rail now }
 {
@@ -182,6 +190,7 @@ pub fn set_supply(sensor: Sensor, rail: u16, now: Time) -> Served
     without_report(s)
 }
 
+#[tactic(auto, unfolding(crate::specs::Supply::turned))]
 fn turned(sensor: Sensor, x: i32, y: i32, z: i32, now: Time) -> Sampling
     ensures { result ≡ Sup.turned sensor x y z now }
 {
