@@ -70,6 +70,7 @@ fn hand_out(buffer: &mut [u8], image: [u8; 19])
 }
 
 // What a timed call does to the sensor at its moment.
+#[tactic(auto, unfolding(crate::specs::Called::effect))]
 fn effect(sensor: Sensor, now: Time, t: Timed) -> Served
     ensures { result ≡ C.effect sensor now t }
 {
@@ -141,6 +142,7 @@ impl Bma150 {
     }
 
     // A timed call.
+    #[tactic(auto, unfolding(crate::specs::Values::report_values, crate::specs::Called::reported, crate::specs::Called::leaves, crate::specs::Called::adds, calls::specs::Table::unless_refused))]
     pub fn timed(self, now: Time, t: Timed) -> Reported
         ensures outcome_value { Table.number result.outcome ≡ (C.called self (Call.At now t)).number }
         ensures sensor_value { result.sensor ≡ (C.called self (Call.At now t)).sensor }
@@ -178,6 +180,7 @@ impl Bma150 {
         replied(self.timed(now, Timed::Accelerations(x, y, z)))
     }
 
+    #[tactic(auto, unfolding(crate::specs::Called::leaves, calls::specs::Table::unless_refused))]
     pub fn temperature(self, millicelsius: i32) -> Bma150
         ensures { result ≡ (C.called self (Call.Temperature millicelsius)).sensor }
     {
@@ -205,6 +208,7 @@ impl Bma150 {
         self.timed(now, Timed::Due)
     }
 
+    #[tactic(auto, unfolding(crate::specs::Called::leaves, calls::specs::Table::unless_refused))]
     pub fn select(self, selected: bool) -> Bma150
         ensures { result ≡ (C.called self (Call.Select selected)).sensor }
     {
@@ -238,6 +242,7 @@ impl Bma150 {
     }
 
     // The byte that a register shows, and whether it is of a mean.
+    #[tactic(auto, unfolding(crate::specs::Called::adds, calls::specs::Table::unless_refused))]
     pub fn view(self, address: u8) -> Viewed
         ensures { C.of_view result ≡ (C.called self (Call.View address)).adds }
     {
