@@ -25,6 +25,7 @@ pub struct Ran {
 }
 
 // Whether the command at `at` is whole: its bytes are there, or no more come and one is.
+#[tactic(auto, unfolding(crate::specs::Block::is_whole))]
 pub fn is_whole(input: &[u8], at: usize, over: bool) -> bool
     ensures { result ≡ B.is_whole over (drop at input.now) }
 {

@@ -17,6 +17,7 @@ use sensor::types::{Mark, View};
 use spi::types::Drive;
 use waits::types::Report;
 
+#[tactic(auto, unfolding(crate::specs::Text::word, calls::specs::Table::refusal_number))]
 fn put_refusal(out: &mut [u8; 65536], o: usize, why: Refusal) -> usize
     requires { o + 13 ≤ 65536 }
     ensures put { Put out.old o (T.word (R.refusal_number why)) out.new result }
@@ -35,6 +36,7 @@ fn put_refusal(out: &mut [u8; 65536], o: usize, why: Refusal) -> usize
     }
 }
 
+#[tactic(auto, unfolding(crate::specs::Text::word, calls::specs::Table::number))]
 fn put_outcome(out: &mut [u8; 65536], o: usize, outcome: Outcome) -> usize
     requires { o + 13 ≤ 65536 }
     ensures put { Put out.old o (T.word (R.number outcome)) out.new result }
@@ -46,6 +48,7 @@ fn put_outcome(out: &mut [u8; 65536], o: usize, outcome: Outcome) -> usize
     }
 }
 
+#[tactic(auto, unfolding(crate::specs::Text::bit))]
 fn bit(b: bool) -> u8
     ensures { result ≡ T.bit b }
 {
@@ -55,6 +58,7 @@ fn bit(b: bool) -> u8
     b'0'
 }
 
+#[tactic(auto, unfolding(bma150::specs::Values::drive_letter))]
 fn letter(d: Drive) -> u8
     ensures { result ≡ Vals.drive_letter d }
 {
@@ -66,6 +70,7 @@ fn letter(d: Drive) -> u8
 }
 
 // Interrupt, four-wire output, data pin.
+#[tactic(auto, unfolding(crate::specs::Line::pins))]
 fn put_pins(out: &mut [u8; 65536], o: usize, s: Bma150) -> usize
     requires { o + 6 ≤ 65536 }
     ensures put { Put out.old o (L.pins s) out.new result }
@@ -82,6 +87,7 @@ fn put_pins(out: &mut [u8; 65536], o: usize, s: Bma150) -> usize
     put(out, p5, d)
 }
 
+#[tactic(auto, unfolding(crate::specs::Text::view_text, bma150::specs::Values::view_value))]
 fn put_view(out: &mut [u8; 65536], o: usize, v: View) -> usize
     requires { o + 3 ≤ 65536 }
     ensures put { Put out.old o (T.view_text (Vals.view_value v)) out.new result }
@@ -96,6 +102,7 @@ fn put_view(out: &mut [u8; 65536], o: usize, v: View) -> usize
     }
 }
 
+#[tactic(auto, unfolding(crate::specs::Text::mark_text, bma150::specs::Values::mark_letter))]
 fn put_mark(out: &mut [u8; 65536], o: usize, m: Mark) -> usize
     requires { o + 2 ≤ 65536 }
     ensures put { Put out.old o (T.mark_text (Vals.mark_letter m)) out.new result }
@@ -120,6 +127,7 @@ fn put_stored(out: &mut [u8; 65536], o: usize, a: u8, v: u8) -> usize
     put_hex(out, p3, v)
 }
 
+#[tactic(auto, unfolding(crate::specs::Text::report_text, bma150::specs::Values::report_values))]
 fn put_report(out: &mut [u8; 65536], o: usize, w: Report) -> usize
     requires { o + 8 ≤ 65536 }
     ensures put { Put out.old o (T.report_text (Vals.report_values w)) out.new result }
@@ -138,6 +146,7 @@ fn put_report(out: &mut [u8; 65536], o: usize, w: Report) -> usize
     }
 }
 
+#[tactic(auto, unfolding(crate::specs::Line::extra_adds, crate::specs::Line::added_text, crate::specs::Text::image_text))]
 fn put_extra(out: &mut [u8; 65536], o: usize, x: Extra, image: &[u8; 19]) -> usize
     requires { o + 39 ≤ 65536 }
     ensures put { Put out.old o (L.added_text (L.extra_adds x image.now)) out.new result }
@@ -157,6 +166,7 @@ fn put_extra(out: &mut [u8; 65536], o: usize, x: Extra, image: &[u8; 19]) -> usi
     }
 }
 
+#[tactic(auto, unfolding(crate::specs::Text::moment_text, deadlines::specs::Deadlines::moment))]
 fn put_moment(out: &mut [u8; 65536], o: usize, d: Deadline) -> usize
     requires { o + 33 ≤ 65536 }
     ensures put { Put out.old o (T.moment_text (moment d)) out.new result }
@@ -172,6 +182,7 @@ fn put_moment(out: &mut [u8; 65536], o: usize, d: Deadline) -> usize
     }
 }
 
+#[tactic(auto, unfolding(crate::specs::Text::due_text))]
 fn put_due(out: &mut [u8; 65536], o: usize, trace: bool, s: Bma150) -> usize
     requires { o + 38 ≤ 65536 }
     ensures put { Put out.old o (T.due_text trace (K.next_due s)) out.new result }
@@ -184,6 +195,7 @@ fn put_due(out: &mut [u8; 65536], o: usize, trace: bool, s: Bma150) -> usize
     o
 }
 
+#[tactic(auto, unfolding(crate::specs::Line::line))]
 pub(crate) fn write_line(out: &mut [u8; 65536], o: usize, trace: bool, b: u8, r: Reply) -> usize
     requires { o + 128 ≤ 65536 }
     ensures put { Put out.old o (L.line trace b (L.replied r)) out.new result }

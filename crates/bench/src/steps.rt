@@ -21,6 +21,7 @@ use time::Time;
 use waits::types::Report;
 
 // A reply that adds nothing.
+#[tactic(auto, unfolding(crate::specs::Line::extra_adds))]
 fn silent(sensor: Bma150, outcome: Outcome) -> Reply
     ensures { L.replied result ≡ L.silent sensor (R.number outcome) }
 {
@@ -60,6 +61,7 @@ fn start(running: Bma150, by: Starting, when: Time, input: &[u8], at: usize) -> 
 }
 
 // Supply and due calls report.
+#[tactic(auto, unfolding(crate::specs::Line::extra_adds, bma150::specs::Called::timed_adds))]
 fn timed_extra(t: Timed, report: Report) -> Extra
     ensures { L.same_adds result (K.timed_adds t report) }
 {
@@ -74,6 +76,7 @@ fn timed_extra(t: Timed, report: Report) -> Extra
 }
 
 // A refused call adds nothing.
+#[tactic(auto, unfolding(calls::specs::Table::unless_refused))]
 fn unless_refused(outcome: Outcome, extra: Extra) -> Extra
     ensures { result ≡ R.unless_refused (R.number outcome) L.no_extra extra }
 {
@@ -99,6 +102,7 @@ fn timed(sensor: Bma150, when: Time, t: Timed) -> Reply
 }
 
 // The reply of a lent due call that left this sensor and this answer.
+#[tactic(auto, unfolding(crate::specs::Line::extra_adds, bma150::specs::Called::timed_adds))]
 fn answered(sensor: Bma150, a: Answered) -> Reply
     ensures { (s : Bma150) (t : Time) → DueLent s t sensor a → L.replied result ≡ K.called s (Call.At t Timed.Due) }
 {
@@ -149,6 +153,7 @@ fn timed_either(sensor: Bma150, when: Time, t: Timed, lent: bool) -> Reply
     timed(sensor, when, t)
 }
 
+#[tactic(auto, unfolding(crate::specs::Line::extra_adds, calls::specs::Table::number))]
 fn view(sensor: Bma150, address: u8) -> Reply
     ensures { L.replied result ≡ K.called sensor (Call.View address) }
 {
@@ -164,6 +169,7 @@ fn view(sensor: Bma150, address: u8) -> Reply
 }
 
 // Into a buffer of 19 bytes; another length is refused as the call refuses it.
+#[tactic(auto, unfolding(calls::specs::Table::number, calls::specs::Table::refusal_number, crate::specs::Line::extra_adds))]
 fn stored_image(sensor: Bma150, when: Time, length: usize) -> Reply
     ensures { L.replied result ≡ K.called sensor (Call.StoredImage when length) }
 {
@@ -180,6 +186,7 @@ fn stored_image(sensor: Bma150, when: Time, length: usize) -> Reply
     }
 }
 
+#[tactic(auto, unfolding(calls::specs::Table::number))]
 fn host(sensor: Bma150, c: Call, lent: bool) -> Reply
     ensures { L.replied result ≡ K.called sensor c }
 {
@@ -193,6 +200,7 @@ fn host(sensor: Bma150, c: Call, lent: bool) -> Reply
 }
 
 // The command that stands at `at` in the input; a bad one changes nothing. `lent`: a due or a pin call goes over a lent sensor.
+#[tactic(auto, unfolding(crate::specs::Line::commanded, calls::specs::Table::number, calls::specs::Table::refusal_number))]
 pub(crate) fn serve(sensor: Bma150, c: Command, input: &[u8], at: usize, lent: bool) -> Reply
     requires { c ≡ D.decoded (drop at input.now) }
     ensures { L.replied result ≡ L.commanded sensor c (D.image (drop at input.now)) }

@@ -55,6 +55,7 @@ pub(crate) fn put_hexes(out: &mut [u8; 65536], o: usize, w: &[u8]) -> usize
     p
 }
 
+#[tactic(auto, unfolding(crate::specs::Text::hex4))]
 fn put_hex4(out: &mut [u8; 65536], o: usize, x: u64) -> usize
     requires { (o + 4 ≤ 65536) × (x < 65536) }
     ensures put { Put out.old o (T.hex4 x) out.new result }
@@ -64,6 +65,7 @@ fn put_hex4(out: &mut [u8; 65536], o: usize, x: u64) -> usize
     put_hex(out, p, (x % 256) as u8)
 }
 
+#[tactic(auto, unfolding(crate::specs::Text::hex8))]
 fn put_hex8(out: &mut [u8; 65536], o: usize, x: u64) -> usize
     requires { (o + 8 ≤ 65536) × (x < 4294967296) }
     ensures put { Put out.old o (T.hex8 x) out.new result }
@@ -73,6 +75,7 @@ fn put_hex8(out: &mut [u8; 65536], o: usize, x: u64) -> usize
     put_hex4(out, p, x % 65536)
 }
 
+#[tactic(auto, unfolding(crate::specs::Text::hex16))]
 pub(crate) fn put_hex16(out: &mut [u8; 65536], o: usize, x: u64) -> usize
     requires { o + 16 ≤ 65536 }
     ensures put { Put out.old o (T.hex16 x) out.new result }

@@ -148,7 +148,7 @@ pub data Serves : Bma150 → Call → Bma150 → Answer → Type 0 where
       → Serves s (Call.At now (Timed.Pins before after)) t (replied r (Timed.Pins before after) Report.Nothing o)
   view : {s : Bma150} {address : ℕ} (r : Viewed) (o : Pins) → view_reads.Post tt (s, (address, tt)) r (s, (address, tt)) → Observed s o
       → Serves s (Call.View address) s (accepted (of_view r) o)
-  stored_image : {s : Bma150} {now : Time} {n : ℕ} (κs : Lfts 1) (lent left : Bor (List ℕ)) (r : Outcome) (o : Pins) → length lent.now ≡ n
+  stored_image : {s : Bma150} {now : Time} {n : ℕ} (κs : Lfts 1) (lent left : MutBor (List ℕ)) (r : Outcome) (o : Pins) → length lent.now ≡ n
       → stored_image_reads.Post κs (s, (now, (lent, tt))) r (s, (now, (left, tt))) → Observed s o
       → Serves s (Call.StoredImage now n) s (handed r left.now o)
 
@@ -163,9 +163,9 @@ pub data Begins : Start → Bma150 → Answer → Type 0 where
 
 -- what the contracts of the lent calls say is `DueLent` and `PinsLent`, and there is such a reply whatever the sensor and the arguments
 pub record LentToo : Type 2 where
-  pub due_says : {M : Type 1} {𝓤 : Ura M} (𝓛 : Logic 𝓤) (memory : Memory → SProp 𝓤) (run : Routine → Fun 𝓤) (κs : Lfts 1) (s t : Bor Bma150) (now : Time) (r : Answered)
+  pub due_says : {M : Type 1} {𝓤 : Ura M} (𝓛 : Logic 𝓤) (memory : Memory → SProp 𝓤) (run : Routine → Fun 𝓤) (κs : Lfts 1) (s t : MutBor Bma150) (now : Time) (r : Answered)
       → (due_lent_function.clauses 𝓛 memory run κs (s, (now, tt))).ensures tt r (t, (now, tt)) ≡ fact 𝓤 (DueLent s.now now t.now r)
-  pub pins_says : {M : Type 1} {𝓤 : Ura M} (𝓛 : Logic 𝓤) (memory : Memory → SProp 𝓤) (run : Routine → Fun 𝓤) (κs : Lfts 1) (s t : Bor Bma150) (now : Time) (before after : Levels) (r : Outcome)
+  pub pins_says : {M : Type 1} {𝓤 : Ura M} (𝓛 : Logic 𝓤) (memory : Memory → SProp 𝓤) (run : Routine → Fun 𝓤) (κs : Lfts 1) (s t : MutBor Bma150) (now : Time) (before after : Levels) (r : Outcome)
       → (pins_lent_function.clauses 𝓛 memory run κs (s, (now, (before, (after, tt))))).ensures tt r (t, (now, (before, (after, tt)))) ≡ fact 𝓤 (PinsLent s.now now before after t.now r)
   pub due : (s : Bma150) (now : Time) → (t : Bma150) × (r : Answered) × (o : Pins) × DueLent s now t r × Observed t o
   pub pins : (s : Bma150) (now : Time) (before after : Levels) → (t : Bma150) × (r : Outcome) × (o : Pins) × PinsLent s now before after t r × Observed t o

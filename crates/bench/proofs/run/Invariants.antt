@@ -1,0 +1,17 @@
+use borrow.Author.Rules.{rules}
+use native.Mathlib.Omega.{arith}
+use mathlib.Core.Path.{◌≡◌, refl, sym, ◌∙◌}
+use mathlib.Core.Bool.{true, false}
+use Prim.Native.Nat.{◌-◌, ◌≤◌}
+use lib.ListN.{length, drop, length-drop}
+use Rattle.machine.proofs.Theorems.Blocks.{Upto, begun, pace_short, pace_full, pace_stopped, stopped_turn}
+use Rattle.bench.specs.Run.{bench}
+use Rattle.bench.specs.Block.{is_whole}
+use Rattle.bench.specs.Theorems.Loop.{short, some, advance, went, finished}
+use Rattle.bench.proofs.run.Given as goal
+
+abbrev pub invariant-loop-n : goal.invariant-loop-n
+invariant-loop-n l = (l.at ≤ length l.input) × (l.p ≤ 65536) × Upto (bench l.trace) l.over l.initial.n l.input l.initial.out l.out l.n l.at l.p false
+
+abbrev pub decreases-loop-n : goal.decreases-loop-n
+decreases-loop-n l = length l.input - l.at

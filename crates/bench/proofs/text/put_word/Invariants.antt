@@ -1,0 +1,15 @@
+use borrow.Author.Rules.{rules}
+use native.Mathlib.Omega.{arith}
+use mathlib.Core.Path.{◌≡◌}
+use Prim.Native.Nat.{◌+◌, ◌-◌, ◌≤◌}
+use lib.ListN.{length, take}
+use lib.Seq.{take_all}
+use Rattle.machine.specs.Put.{Put}
+use Rattle.machine.proofs.Theorems.Put.{none, ◌then◌, says, one_more}
+use Rattle.bench.proofs.text.put_word.Given as goal
+
+abbrev pub invariant-loop-i : goal.invariant-loop-i
+invariant-loop-i l = (l.i ≤ length l.w) × (l.p ≡ l.o + l.i) × Put l.initial.out l.o (take l.i l.w) l.out l.p
+
+abbrev pub decreases-loop-i : goal.decreases-loop-i
+decreases-loop-i l = length l.w - l.i
