@@ -11,7 +11,7 @@ use prog.Memory.{Memory}
 use prog.Routine.{Routine}
 use types.Logic.{Logic}
 use contract.Monad.{Fun}
-use denote.Ref.{Bor}
+use Rattle.std.specs.Borrow.{Bor, MutBor}
 use Rattle.time.specs.declared.Time.{Time}
 use Rattle.i2c.specs.declared.types.Levels.{Levels}
 use Rattle.deadlines.specs.declared.Deadline.{Deadline}
@@ -153,6 +153,10 @@ observed t = record { interrupt = refl; output = refl; data_output = refl; next_
 abbrev at_address : List ℕ → Bor (List ℕ)
 at_address l = record { ref_ptr = (0, 0); now = l }
 
+-- a list lent to be altered, wherever it stands
+abbrev altered_at : List ℕ → MutBor (List ℕ)
+altered_at l = record { ref_ptr = (0, 0); ghost_name = 0; now = l }
+
 -- a report with these values
 timed_report : (t : Timed) (q : Report) → (r : Report) × (report_values r ≡ reported (timed_adds t q))
 unfolding timed_adds reported report_values
@@ -190,10 +194,10 @@ replies s (Call.StoredImage now n) =
     let u = outcome_of s.last (interaction_deadline s.sensor) s.sensor.kept.lines (Call.StoredImage now n) in
     let zeros : List ℕ = replicate n 0 in
     let e : length zeros ≡ n = length-replicate n 0 in
-    let left = at_address (put_in (called s (Call.StoredImage now (length zeros))).adds zeros) in (
+    let left = altered_at (put_in (called s (Call.StoredImage now (length zeros))).adds zeros) in (
       s,
       handed u.0 left.now (seen s),
-      Serves.stored_image ([], tt) (at_address zeros) left u.0 (seen s) e (u.1 ∙ ap (λ (k : ℕ). number s (Call.StoredImage now k)) (sym e), refl) (observed s),
+      Serves.stored_image ([], tt) (altered_at zeros) left u.0 (seen s) e (u.1 ∙ ap (λ (k : ℕ). number s (Call.StoredImage now k)) (sym e), refl) (observed s),
     )
 
 -- ---- starts
