@@ -10,6 +10,7 @@ ghost use Rattle.bench_stream.specs.Loop as S;
 use bench::{is_whole, run};
 use bma150::host::Bma150;
 use sensor::image::stock;
+use std::io::{Read, Write};
 use time::Time;
 
 // Between two turns: the bytes from `at` to `have` are yet to be served; `over`: no more come; `stop`: refusal 7 was met; `unread`: a
@@ -34,10 +35,13 @@ struct Filled {
 }
 
 // Hands the first o bytes of text to `write`, and answers whether it took them.
-fn flush(out: &[u8], o: usize) -> bool
+fn flush<W: Write>(output: &mut W, out: &[u8], o: usize) -> bool
     requires { o ≤ length out.now }
 {
-    io::write_all(1, &out[..o])
+    match output.write_all(&out[..o]) {
+        Ok(()) => true,
+        Err(_) => false,
+    }
 }
 
 // Moves the bytes from `at` to `have` to the front, and answers how many they are.
@@ -55,20 +59,25 @@ fn keep(buf: &mut [u8], at: usize, have: usize) -> usize
 }
 
 // Reads once, after the kept bytes.
-fn fill(buf: &mut [u8], kept: usize) -> Filled
+fn fill<R: Read>(input: &mut R, buf: &mut [u8], kept: usize) -> Filled
     requires { kept ≤ length buf.old }
     ensures got_in_bounds { kept + result.got ≤ length buf.old }
     ensures buf_unchanged { take kept buf.new ≡ take kept buf.old }
 {
-    let got = libc::read(0, &mut buf[kept..]);
-    Filled {
-        got: io::count(got, &buf[kept..]),
-        failed: got < 0,
+    match input.read(&mut buf[kept..]) {
+        Ok(got) => Filled {
+            got: got,
+            failed: false,
+        },
+        Err(_) => Filled {
+            got: 0,
+            failed: true,
+        },
     }
 }
 
 // More input, with the kept bytes moved to the front. A read of nothing is the input's end; a read that fails is not.
-fn more(buf: &mut [u8; 65536], trace: bool, t: Turn) -> Turn
+fn more<R: Read>(input: &mut R, buf: &mut [u8; 65536], trace: bool, t: Turn) -> Turn
     requires at_le_have { (t.at ≤ t.have) × (t.have ≤ 65536) × (t.over ≡ false) × (t.stop ≡ false) }
     requires buf_value { is_whole false (S.kept_of t buf.old) ≡ false }
     ensures at_le_have_2 { (result.at ≤ result.have) × (result.have ≤ 65536) × (result.written ≡ 0) }
@@ -77,7 +86,7 @@ fn more(buf: &mut [u8; 65536], trace: bool, t: Turn) -> Turn
     let at = t.at;
     let have = t.have;
     let kept = keep(buf, at, have);
-    let f = fill(buf, kept);
+    let f = fill(input, buf, kept);
     let got = f.got;
     let s = t.sensor;
     if f.failed {
@@ -105,7 +114,13 @@ fn more(buf: &mut [u8; 65536], trace: bool, t: Turn) -> Turn
 }
 
 // A block on the kept bytes. Its text is handed to `write`; a write that fails ends the loop.
-fn commands(buf: &[u8], out: &mut [u8; 65536], trace: bool, t: Turn) -> Turn
+fn commands<W: Write>(
+    output: &mut W,
+    buf: &[u8],
+    out: &mut [u8; 65536],
+    trace: bool,
+    t: Turn,
+) -> Turn
     requires { (t.at ≤ t.have) × (t.have ≤ length buf.now) × (t.stop ≡ false) × S.Enough t buf.now }
     ensures at_le_have { (result.at ≤ result.have) × (result.have ≡ t.have) × (result.written ≤ 65536) }
     ensures stepped { S.Stepped trace t buf.now result buf.now out.new }
@@ -116,7 +131,7 @@ fn commands(buf: &[u8], out: &mut [u8; 65536], trace: bool, t: Turn) -> Turn
     let s = t.sensor;
     let r = run(&buf[at..have], over, trace, out, s);
     let n = r.sensor;
-    let taken = flush(out, r.written);
+    let taken = flush(output, out, r.written);
     Turn {
         at: at + r.read,
         have: have,
@@ -138,7 +153,14 @@ fn ready(buf: &[u8], at: usize, have: usize) -> bool
 }
 
 // A block where a whole command is kept or no more comes, else input.
-fn step(buf: &mut [u8; 65536], out: &mut [u8; 65536], trace: bool, t: Turn) -> Turn
+fn step<R: Read, W: Write>(
+    input: &mut R,
+    output: &mut W,
+    buf: &mut [u8; 65536],
+    out: &mut [u8; 65536],
+    trace: bool,
+    t: Turn,
+) -> Turn
     requires { (t.at ≤ t.have) × (t.have ≤ 65536) × (t.stop ≡ false) }
     ensures at_le_have { (result.at ≤ result.have) × (result.have ≤ 65536) × (result.written ≤ 65536) }
     ensures stepped { S.Stepped trace t buf.old result buf.new out.new }
@@ -146,15 +168,16 @@ fn step(buf: &mut [u8; 65536], out: &mut [u8; 65536], trace: bool, t: Turn) -> T
     let at = t.at;
     let have = t.have;
     if t.over {
-        return commands(buf, out, trace, t);
+        return commands(output, buf, out, trace, t);
     }
     if ready(buf, at, have) {
-        return commands(buf, out, trace, t);
+        return commands(output, buf, out, trace, t);
     }
-    more(buf, trace, t)
+    more(input, buf, trace, t)
 }
 
 // Whether something is left to do.
+#[tactic(auto, unfolding(crate::specs::Loop::goes_on))]
 fn goes_on(t: Turn) -> bool
     ensures { result ≡ S.goes_on t }
 {
@@ -194,41 +217,54 @@ fn begin() -> Turn
 }
 
 // Nothing says that the input ends, so the loop counts its turns down from a number that no run uses up.
-fn turns(buf: &mut [u8; 65536], out: &mut [u8; 65536], trace: bool) -> Turn
+fn turns<R: Read, W: Write>(
+    input: &mut R,
+    output: &mut W,
+    buf: &mut [u8; 65536],
+    out: &mut [u8; 65536],
+    trace: bool,
+) -> Turn
     ensures { S.Ended trace result }
 {
     let mut n = u64::MAX;
     let mut t = begin();
     while n > 0 && goes_on(t) {
-        t = step(buf, out, trace, t);
+        t = step(input, output, buf, out, trace, t);
         n -= 1;
     }
     t
 }
 
 // A read or a write that failed, said on standard error.
-fn complain(t: Turn) {
+fn complain<E: Write>(errors: &mut E, t: Turn) {
     if t.unread {
-        io::write_all(
-            2,
+        flush(
+            errors,
             b"bench: a read of standard input failed; the commands before it are answered\n",
+            76,
         );
     }
     if t.unwritten {
-        io::write_all(
-            2,
+        flush(
+            errors,
             b"bench: a write to standard output failed; lines are missing\n",
+            60,
         );
     }
 }
 
-// Commands from standard input, lines to standard output; the answer is the loop's last state.
-pub fn stream(trace: bool) -> Turn
+// Commands from standard input, lines to standard output, what failed to standard error; the answer is the loop's last state.
+pub fn stream<R: Read, W: Write, E: Write>(
+    input: &mut R,
+    output: &mut W,
+    errors: &mut E,
+    trace: bool,
+) -> Turn
     ensures { S.Ended trace result }
 {
     let mut buf = [0; 65536];
     let mut out = [0; 65536];
-    let t = turns(&mut buf, &mut out, trace);
-    complain(t);
+    let t = turns(input, output, &mut buf, &mut out, trace);
+    complain(errors, t);
     t
 }

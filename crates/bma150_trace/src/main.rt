@@ -1,6 +1,9 @@
 // The bench program with next due at the end of each line.
 #![tactic(auto)]
 
-fn main() {
-    bench_stream::stream(true);
+fn main(rt: HostRuntime) {
+    let mut input = rt.stdin();
+    let mut output = rt.stdout();
+    let mut errors = rt.stderr();
+    bench_stream::stream(&mut input, &mut output, &mut errors, true);
 }

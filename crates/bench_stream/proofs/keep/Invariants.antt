@@ -1,0 +1,14 @@
+use borrow.Author.Rules.{rules}
+use native.Mathlib.Omega.{arith}
+use mathlib.Core.Path.{◌≡◌}
+use Prim.Native.Nat.{◌+◌, ◌-◌, ◌≤◌, ◌<◌}
+use lib.ListN.{length, take, drop}
+use Rattle.machine.specs.Put.{Put}
+use Rattle.machine.proofs.Theorems.Put.{none, says, moved, stored, kept_length}
+use Rattle.bench_stream.proofs.keep.Given as goal
+
+abbrev pub invariant-loop-p : goal.invariant-loop-p
+invariant-loop-p l = (l.p ≤ l.have - l.at) × Put l.initial.buf 0 (take l.p (drop l.at l.initial.buf)) l.buf l.p
+
+abbrev pub decreases-loop-p : goal.decreases-loop-p
+decreases-loop-p l = l.have - l.at - l.p
