@@ -8,10 +8,8 @@ use Rattle.nv.specs.Cell.{write_length, cell_number, byte}
 use Rattle.nv.specs.Cycle as Cycle
 use Rattle.registers.specs.Access.{begins}
 use Rattle.spi.specs.declared.types.Write.{Write}
-use Rattle.spi.specs.declared.types.Write.TheVariants as Write
 use Rattle.calls.specs.declared.types.Call.{Call}
 use Rattle.sensor.specs.declared.types.Operation.{Operation}
-use Rattle.sensor.specs.declared.types.Operation.TheVariants as Operation
 use Rattle.sensor.specs.declared.types.Sensor.{Sensor}
 use Rattle.sensor.specs.Record.{with_nonvolatile, with_writing, gate}
 use Rattle.sensor.specs.Image.{cell_byte, with_cell}

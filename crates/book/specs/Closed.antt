@@ -6,7 +6,6 @@ use Rattle.time.specs.declared.Time.{Time}
 use Rattle.time.specs.Time.{ticks}
 use Rattle.nv.specs.Cell.{write_length, cell_number, byte}
 use Rattle.spi.specs.declared.types.Write.{Write}
-use Rattle.spi.specs.declared.types.Write.TheVariants as Write
 use Rattle.calls.specs.declared.types.Call.{Call}
 use Rattle.sensor.specs.declared.types.Sensor.{Sensor}
 use Rattle.sensor.specs.Image.{cell_byte}

@@ -6,9 +6,7 @@ use Rattle.time.specs.declared.Time.{Time}
 use Rattle.spi.specs.declared.types.Drive.{Drive}
 use Rattle.deadlines.specs.declared.Deadline.{Deadline}
 use Rattle.calls.specs.declared.types.Timed.{Timed}
-use Rattle.calls.specs.declared.types.Timed.TheVariants as Timed
 use Rattle.calls.specs.declared.types.Call.{Call}
-use Rattle.calls.specs.declared.types.Call.TheVariants as Call
 use Rattle.calls.specs.declared.types.Starting.{Starting}
 use Rattle.sensor.specs.declared.types.Kept.{Kept}
 use Rattle.sensor.specs.Image.{new_kept}

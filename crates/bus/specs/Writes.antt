@@ -7,7 +7,6 @@ use Rattle.spi.specs.Lines.{Deed, Wrote, Fetched, Noted}
 use Rattle.spi.specs.Lines as L
 use Rattle.spi.specs.Courses as P
 use Rattle.spi.specs.declared.types.Write.{Write}
-use Rattle.spi.specs.declared.types.Write.TheVariants as Write
 use Rattle.calls.specs.declared.types.Call.{Call}
 use Rattle.bma150.specs.declared.host.Bma150.{Bma150}
 use Rattle.book.specs.Does.{action_write, does}

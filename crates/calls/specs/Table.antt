@@ -11,21 +11,13 @@ use Rattle.deadlines.specs.declared.Deadline.{Deadline}
 use Rattle.deadlines.specs.Deadlines.{is_at, is_by}
 use Rattle.calls.specs.declared.types.Call.{Call}
 use Rattle.calls.specs.declared.types.Starting.{Starting}
-use Rattle.calls.specs.declared.types.Starting.TheVariants as Starting
 use Rattle.calls.specs.declared.types.Refusal.{Refusal}
-use Rattle.calls.specs.declared.types.Refusal.TheVariants as Refusal
 use Rattle.calls.specs.declared.types.Outcome.{Outcome}
-use Rattle.calls.specs.declared.types.Outcome.TheVariants as Outcome
 use Rattle.calls.specs.declared.types.Kind.{Kind}
-use Rattle.calls.specs.declared.types.Kind.TheVariants as Kind
 use Rattle.calls.specs.declared.types.Dated.{Dated}
-use Rattle.calls.specs.declared.types.Dated.TheVariants as Dated
 use Rattle.calls.specs.declared.types.Bytes.{Bytes}
-use Rattle.calls.specs.declared.types.Bytes.TheVariants as Bytes
 use Rattle.calls.specs.declared.types.Axes.{Axes}
-use Rattle.calls.specs.declared.types.Axes.TheVariants as Axes
 use Rattle.calls.specs.declared.types.Lines.{Lines}
-use Rattle.calls.specs.declared.types.Lines.TheVariants as Lines
 use Rattle.calls.specs.declared.types.Facts.{Facts}
 use Rattle.calls.specs.Facts.{facts}
 

@@ -6,11 +6,8 @@ use Rattle.registers.specs.Map as Map
 use Rattle.registers.specs.declared.access.Gate.{Gate}
 use Rattle.registers.specs.Access.{ignores, stored}
 use Rattle.control.specs.declared.types.WriteKind.{WriteKind}
-use Rattle.control.specs.declared.types.WriteKind.TheVariants as WriteKind
 use Rattle.control.specs.declared.types.SelfTest.{SelfTest}
-use Rattle.control.specs.declared.types.SelfTest.TheVariants as SelfTest
 use Rattle.control.specs.declared.types.Sleep.{Sleep}
-use Rattle.control.specs.declared.types.Sleep.TheVariants as Sleep
 
 -- ---- what a write does
 

@@ -13,12 +13,11 @@ use Rattle.time.specs.declared.Time.{Time}
 use Rattle.deadlines.specs.declared.Deadline.{Deadline}
 use Rattle.calls.specs.declared.types.Timed.TheVariants as Timed
 use Rattle.calls.specs.declared.types.Call.{Call}
-use Rattle.calls.specs.declared.types.Call.TheVariants as Call
 use Rattle.calls.specs.Table.{refusal}
 use Rattle.sensor.specs.declared.types.Kept.{Kept}
 use Rattle.sensor.specs.Image.{cell_byte, new_kept}
 use Rattle.bma150.specs.declared.host.Bma150.{Bma150}
-use Rattle.calls.proofs.Theorems.Exactly.{TurnedDown}
+use Rattle.calls.specs.Theorems.Exactly.{TurnedDown}
 use Rattle.bma150.specs.Called.{Added, measurement_of, start_number}
 use Rattle.book.specs.Does.{does}
 use Rattle.book.specs.Lists.{Answer, Start, Fractions, met_zero, last_kept}

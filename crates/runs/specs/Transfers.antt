@@ -10,9 +10,7 @@ use Rattle.i2c.specs.Bus.{edge}
 use Rattle.registers.specs.Access.{begins}
 use Rattle.spi.specs.Frame.{fresh}
 use Rattle.calls.specs.declared.types.Timed.{Timed}
-use Rattle.calls.specs.declared.types.Timed.TheVariants as Timed
 use Rattle.calls.specs.declared.types.Call.{Call}
-use Rattle.calls.specs.declared.types.Call.TheVariants as Call
 use Rattle.sensor.specs.declared.types.Sensor.{Sensor}
 use Rattle.sensor.specs.Record.{gate, is_writing}
 use Rattle.bma150.specs.declared.host.Bma150.{Bma150}

@@ -12,7 +12,6 @@ use Rattle.control.specs.Lengths.{needs}
 use Rattle.sampling.specs.declared.types.Acquisition.{Acquisition}
 use Rattle.sampling.specs.Phase as Phase
 use Rattle.sensor.specs.declared.types.Operation.{Operation}
-use Rattle.sensor.specs.declared.types.Operation.TheVariants as Operation
 use Rattle.sensor.specs.declared.types.Sensor.{Sensor}
 use Rattle.sensor.specs.Record.{with_registers, with_sampling, with_interrupts, is_off, automatic}
 use Rattle.sensor.specs.Mode.{automatic_control}

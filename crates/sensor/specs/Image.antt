@@ -24,7 +24,6 @@ use Rattle.sampling.specs.declared.types.Test.TheVariants as Test
 use Rattle.sampling.specs.declared.types.Sampling.{Sampling}
 use Rattle.sensor.specs.declared.types.Kept.{Kept}
 use Rattle.sensor.specs.declared.types.Operation.{Operation}
-use Rattle.sensor.specs.declared.types.Operation.TheVariants as Operation
 use Rattle.sensor.specs.declared.types.Sensor.{Sensor}
 use Rattle.sensor.specs.Record.{with_registers, with_reads, with_sampling, with_interrupts, with_deadlines, with_filter}
 

@@ -14,10 +14,7 @@ use Rattle.deadlines.specs.Deadlines.{shifted}
 use Rattle.sampling.specs.declared.types.Sampling.{Sampling}
 use Rattle.sampling.specs.Stage as Stage
 use Rattle.sensor.specs.declared.types.Operation.{Operation}
-use Rattle.sensor.specs.declared.types.Operation.TheVariants as Operation
-use Rattle.sensor.specs.declared.types.Supply.{Supply}
 use Rattle.waits.specs.declared.types.Report.{Report}
-use Rattle.waits.specs.declared.types.Report.TheVariants as Report
 use Rattle.waits.specs.declared.types.Served.{Served}
 use Rattle.sensor.specs.declared.types.Sensor.{Sensor}
 use Rattle.sensor.specs.Record.{with_nonvolatile, with_i2c, with_sampling, with_kept, with_input, with_deadlines, with_writing, with_supply, is_off}

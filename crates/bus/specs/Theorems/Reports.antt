@@ -13,9 +13,7 @@ use Rattle.i2c.specs.Target.{target, act, deed}
 use Rattle.i2c.proofs.Theorems.Uses.{uses, uses_exactly}
 use Rattle.deadlines.specs.Deadlines.{is_set}
 use Rattle.control.specs.declared.types.WriteKind.{WriteKind}
-use Rattle.control.specs.declared.types.WriteKind.TheVariants as WriteKind
 use Rattle.sensor.specs.declared.types.View.{View}
-use Rattle.sensor.specs.declared.types.View.TheVariants as View
 use Rattle.sensor.specs.declared.types.Sensor.{Sensor}
 use Rattle.sensor.specs.Record.{with_i2c, is_quiet}
 use Rattle.sensor.specs.Mode.{soft_reset, criterion}

@@ -16,7 +16,6 @@ use Rattle.i2c.proofs.Theorems.Quiet.{quiet_aborts, quiet_conditions}
 use Rattle.deadlines.specs.Deadlines.{is_set}
 use Rattle.calls.specs.declared.types.Timed.TheVariants as Timed
 use Rattle.calls.specs.declared.types.Call.{Call}
-use Rattle.calls.specs.declared.types.Call.TheVariants as Call
 use Rattle.sensor.specs.declared.types.Sensor.{Sensor}
 use Rattle.sensor.specs.Record.{with_lines, with_i2c, is_off, serial_not_ready, is_quiet}
 use Rattle.samples.specs.Samples.{sync_local_until}

@@ -1,5 +1,5 @@
 -- Quiet after a soft reset: an acknowledge that was begun is finished, and nothing else is heard, START included.
-use Rattle.std.specs.Prelude.{◌≡◌, Bool, true, false, not, ℕ}
+use Rattle.std.specs.Prelude.{◌≡◌, Bool, true, false, ℕ}
 use Rattle.std.proofs.Math.Path.{refl}
 use Rattle.std.proofs.Common.{arith}
 use Rattle.laws.specs.Notation.{if◌then◌else◌}
