@@ -1,6 +1,6 @@
 -- What a command leaves and answers, and the line that is written of it (01, "Bench program").
-use Rattle.std.specs.Prelude.{◌≡◌, Bool, List, [], ◌∷◌, ◌++◌, ℕ, eqb}
-use Rattle.laws.specs.Notation.{if◌then◌else◌, Image}
+use Rattle.std.specs.Prelude.{◌≡◌, Bool, List, [], ◌∷◌, ◌++◌, ℕ, eqb, if◌then◌else◌}
+use Rattle.laws.specs.Notation.{Image}
 use Rattle.time.specs.declared.Time.{Time}
 use Rattle.commands.specs.declared.Command.{Command}
 use Rattle.calls.specs.declared.types.Starting.{Starting}

@@ -1,7 +1,7 @@
 -- The closed form of the write book's cells: each holds the starting byte if no write to it began, else what the latest one left: the wanted byte if it completed, or the cut rule's.
-use Rattle.std.specs.Prelude.{ℕ, zero, suc, ◌+◌, ◌-◌, Bool, true, false, ◌&&◌, List, [], ◌∷◌, map, leb, ltb, eqb}
+use Rattle.std.specs.Prelude.{ℕ, zero, suc, ◌+◌, ◌-◌, Bool, true, false, ◌&&◌, List, [], ◌∷◌, map, leb, ltb, eqb, if◌then◌else◌}
 use Rattle.std.proofs.Math.Option.{Option, none, some}
-use Rattle.laws.specs.Notation.{if◌then◌else◌, Byte, Address, Image}
+use Rattle.laws.specs.Notation.{Byte, Address, Image}
 use Rattle.time.specs.declared.Time.{Time}
 use Rattle.time.specs.Time.{ticks}
 use Rattle.nv.specs.Cell.{write_length, cell_number, byte}

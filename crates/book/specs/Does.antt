@@ -1,7 +1,6 @@
 -- What an accepted call does to what is kept, to the supply and to the write book, said once for each call.
-use Rattle.std.specs.Prelude.{ℕ, Bool, false, not, ◌&&◌, ℤ}
+use Rattle.std.specs.Prelude.{ℕ, Bool, false, not, ◌&&◌, ℤ, if◌then◌else◌}
 use Rattle.std.proofs.Math.Option.{Option, none, some}
-use Rattle.laws.specs.Notation.{if◌then◌else◌}
 use Rattle.time.specs.declared.Time.{Time}
 use Rattle.i2c.specs.declared.types.Levels.{Levels}
 use Rattle.i2c.specs.declared.types.Edge.{Edge}

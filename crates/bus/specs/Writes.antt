@@ -1,6 +1,5 @@
 -- The register writes that the pins make in a list of calls, as the write book asks for them.
-use Rattle.std.specs.Prelude.{List, [], ◌∷◌, ◌%◌}
-use Rattle.laws.specs.Notation.{if◌then◌else◌}
+use Rattle.std.specs.Prelude.{List, [], ◌∷◌, ◌%◌, if◌then◌else◌}
 use Rattle.i2c.specs.Target.{Seen}
 use Rattle.i2c.specs.Transfers.{Pair}
 use Rattle.spi.specs.Lines.{Deed, Wrote, Fetched, Noted}

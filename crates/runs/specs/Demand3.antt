@@ -1,5 +1,5 @@
 -- Demand 3 of 01, and what is delivered. docs/PROOF.md reads this file line by line.
-use Rattle.std.specs.Prelude.{ℕ, ◌%◌, ◌^◌, ◌≤◌, ◌<◌, ◌≡◌, true, false, List, [], ◌∷◌, ◌++◌, eqb, length}
+use Rattle.std.specs.Prelude.{ℕ, ◌%◌, ◌^◌, ◌≤◌, ◌<◌, ◌≡◌, true, false, List, [], ◌∷◌, ◌++◌, eqb, length, if◌then◌else◌}
 use Rattle.std.proofs.Math.Option.{Option, none, some}
 use seplogic.Ra.Ura.{Ura}
 use base.Logic.{SProp}
@@ -7,7 +7,6 @@ use prog.Memory.{Memory}
 use prog.Routine.{Routine}
 use types.Logic.{Logic}
 use contract.Monad.{Fun}
-use Rattle.laws.specs.Notation.{if◌then◌else◌}
 use Rattle.laws.specs.Bytes.{sent_bit}
 use Rattle.time.specs.declared.Time.{Time}
 use Rattle.deadlines.specs.declared.Deadline.{Deadline}

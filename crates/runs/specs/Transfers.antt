@@ -1,7 +1,6 @@
 -- Runs in which one more bit completes a register write on a bus, and what that bit begins in the write book.
-use Rattle.std.specs.Prelude.{ℕ, ◌^◌, ◌<◌, ◌≡◌, Bool, true, false, List, [], ◌∷◌, ◌++◌}
+use Rattle.std.specs.Prelude.{ℕ, ◌^◌, ◌<◌, ◌≡◌, Bool, true, false, List, [], ◌∷◌, ◌++◌, if◌then◌else◌}
 use Rattle.std.proofs.Math.Option.{some}
-use Rattle.laws.specs.Notation.{if◌then◌else◌}
 use Rattle.laws.specs.Bytes.{sent_bit}
 use Rattle.time.specs.declared.Time.{Time}
 use Rattle.i2c.specs.declared.types.Levels.{Levels}

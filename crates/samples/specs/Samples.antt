@@ -1,6 +1,5 @@
 -- Next due, and samples up to a moment.
-use Rattle.std.specs.Prelude.{ℕ, Bool, false, not, ◌&&◌, eqb}
-use Rattle.laws.specs.Notation.{if◌then◌else◌}
+use Rattle.std.specs.Prelude.{ℕ, Bool, false, not, ◌&&◌, eqb, if◌then◌else◌}
 use Rattle.time.specs.declared.Time.{Time}
 use Rattle.time.specs.Time.{next_unit}
 use Rattle.time.specs.Clock as Clock

@@ -1,7 +1,7 @@
 -- Register views and reads (`peek`, `prepare_read`, `acknowledge_read`).
-use Rattle.std.specs.Prelude.{ℕ, ◌+◌, Bool, false, not, ◌&&◌, eqb, get_or, set}
+use Rattle.std.specs.Prelude.{ℕ, ◌+◌, Bool, false, not, ◌&&◌, eqb, get_or, set, if◌then◌else◌}
 use Rattle.std.specs.Int.Bits.{bit_or}
-use Rattle.laws.specs.Notation.{if◌then◌else◌, Byte, Address}
+use Rattle.laws.specs.Notation.{Byte, Address}
 use Rattle.interrupts.specs.Pin as Pin
 use Rattle.spi.specs.declared.types.Sent.{Sent}
 use Rattle.reads.specs.declared.Prepared.{Prepared}

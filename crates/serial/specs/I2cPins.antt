@@ -1,6 +1,5 @@
 -- An I2C report (`i2c_pins_at`).
-use Rattle.std.specs.Prelude.{ℕ, Bool, true, not, ◌&&◌}
-use Rattle.laws.specs.Notation.{if◌then◌else◌}
+use Rattle.std.specs.Prelude.{ℕ, Bool, true, not, ◌&&◌, if◌then◌else◌}
 use Rattle.time.specs.declared.Time.{Time}
 use Rattle.i2c.specs.declared.types.Levels.{Levels}
 use Rattle.i2c.specs.declared.types.Edge.{Edge}

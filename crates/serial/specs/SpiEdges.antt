@@ -1,6 +1,5 @@
 -- SPI edges (`rising_at`, `falling_at`).
-use Rattle.std.specs.Prelude.{Bool, true, not, ◌&&◌}
-use Rattle.laws.specs.Notation.{if◌then◌else◌}
+use Rattle.std.specs.Prelude.{Bool, true, not, ◌&&◌, if◌then◌else◌}
 use Rattle.time.specs.declared.Time.{Time}
 use Rattle.spi.specs.declared.types.Clocked.{Clocked}
 use Rattle.spi.specs.declared.types.FirstBit.{FirstBit}

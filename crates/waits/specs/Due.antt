@@ -1,6 +1,6 @@
 -- A due moment is served (`at_deadline`), step by step in the Rust's order.
-use Rattle.std.specs.Prelude.{◌%◌, Bool, true, ◌&&◌, eqb, set}
-use Rattle.laws.specs.Notation.{if◌then◌else◌, Byte, Address}
+use Rattle.std.specs.Prelude.{◌%◌, Bool, true, ◌&&◌, eqb, set, if◌then◌else◌}
+use Rattle.laws.specs.Notation.{Byte, Address}
 use Rattle.time.specs.declared.Time.{Time}
 use Rattle.time.specs.Time.{same, from_millis}
 use Rattle.time.specs.Clock as Clock

@@ -1,6 +1,6 @@
 -- Supply, acceleration and temperature.
-use Rattle.std.specs.Prelude.{ℕ, Bool, true, false, ltb, eqb, ℤ}
-use Rattle.laws.specs.Notation.{if◌then◌else◌, Byte, Address}
+use Rattle.std.specs.Prelude.{ℕ, Bool, true, false, ltb, eqb, ℤ, if◌then◌else◌}
+use Rattle.laws.specs.Notation.{Byte, Address}
 use Rattle.time.specs.declared.Time.{Time}
 use Rattle.time.specs.declared.Duration.{Duration}
 use Rattle.time.specs.Time.{since, from_millis}

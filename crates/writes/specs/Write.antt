@@ -1,6 +1,6 @@
 -- Register writes (`write_register`).
-use Rattle.std.specs.Prelude.{Bool, true, false, set}
-use Rattle.laws.specs.Notation.{if◌then◌else◌, Byte, Address}
+use Rattle.std.specs.Prelude.{Bool, true, false, set, if◌then◌else◌}
+use Rattle.laws.specs.Notation.{Byte, Address}
 use Rattle.time.specs.declared.Time.{Time}
 use Rattle.time.specs.Time.{plus, from_millis, from_micros}
 use Rattle.nv.specs.Cycle as Cycle

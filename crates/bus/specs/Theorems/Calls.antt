@@ -1,8 +1,7 @@
 -- Every accepted call of a sensor that hears the bus before and after, as the bus sees it.
-use Rattle.std.specs.Prelude.{ℕ, ◌≡◌, Bool, true, false, ltb, ℤ}
+use Rattle.std.specs.Prelude.{ℕ, ◌≡◌, Bool, true, false, ltb, ℤ, if◌then◌else◌}
 use Rattle.std.proofs.Math.Path.{refl, ap}
 use Rattle.std.proofs.Common.{sym, subst, ◌∙◌}
-use Rattle.laws.specs.Notation.{if◌then◌else◌}
 use Rattle.time.specs.declared.Time.{Time}
 use Rattle.i2c.specs.declared.types.Edge.{Edge}
 use Rattle.i2c.specs.declared.types.Edge.TheVariants.{Still}

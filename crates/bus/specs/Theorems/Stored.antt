@@ -1,8 +1,7 @@
 -- Stored writes over I2C: START, 70 hex, a register and seven bits of a value begin nothing; the eighth rise begins a stored write exactly where 01's rule holds.
-use Rattle.std.specs.Prelude.{ℕ, ◌%◌, ◌<◌, ◌≡◌, Bool, true, false, List, [], ◌++◌}
+use Rattle.std.specs.Prelude.{ℕ, ◌%◌, ◌<◌, ◌≡◌, Bool, true, false, List, [], ◌++◌, if◌then◌else◌}
 use Rattle.std.proofs.Math.Path.{refl, ap}
 use Rattle.std.proofs.Common.{◌∙◌, leb→le}
-use Rattle.laws.specs.Notation.{if◌then◌else◌}
 use Rattle.laws.specs.Bytes.{sent_bit, all_shifted_in, seven_bits, bits_make_the_byte}
 use Rattle.time.specs.declared.Time.{Time}
 use Rattle.nv.specs.Cycle as Cycle
