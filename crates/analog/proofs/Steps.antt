@@ -1,11 +1,11 @@
 -- A step of an axis: its words, the sums of products and what lands on 64 bits.
+use Rattle.std.specs.Prelude.{if◌then◌else◌}
 use Rattle.std.proofs.Common.{◌≡◌, ℕ, zero, suc, ◌+◌, ◌*◌, ◌/◌, ◌%◌, ◌^◌, ◌<◌, ◌≤◌, Bool, true, false, ◌&&◌, ◌||◌, eqb, ℤ, pos, negsuc, ◌+ℤ◌, ◌-ℤ◌, ◌*ℤ◌, neg_ℤ, nat_abs, sym, refl, ap, ◌∙◌, le_trans, le_refl, lt_of_le_of_lt, le_of_lt, add-le-add, mul-le-mul, zero-mul, arith, lit<, lit≤, w64, SFits, to_z, of_z, eq-eqb, ne_eqb, eqb-true}
 use borrow.Author.Tests.{eqb-false}
 use lib.IntN.{+ℤ_idl, -ℤ-+ℤ_cancel, neg_ℤ-neg_ℤ}
 use lib.Signed.{mag, lt_z}
 use mir.Syntax.{Width}
 use mir.ValLaws.{to_z-of_z}
-use Rattle.laws.specs.Notation.{if◌then◌else◌}
 use Rattle.time.specs.declared.Time.{Time}
 use Rattle.time.specs.Time.{lasts, since}
 use Rattle.analog.specs.declared.types.Axis.{Axis}

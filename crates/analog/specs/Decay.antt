@@ -1,6 +1,5 @@
 -- `decay` of analog.rs: exp((−1 + i) · k · dt) with 48 bits after the point, in integers. k is √2 · π · 1500 per second.
-use Rattle.std.specs.Prelude.{ℕ, zero, suc, ◌+◌, ◌*◌, ◌/◌, ◌^◌, ◌&&◌, pos, ◌+ℤ◌, ◌-ℤ◌, ◌*ℤ◌, neg_ℤ, nat_le, nat_lt}
-use Rattle.laws.specs.Notation.{if◌then◌else◌}
+use Rattle.std.specs.Prelude.{ℕ, zero, suc, ◌+◌, ◌*◌, ◌/◌, ◌^◌, ◌&&◌, pos, ◌+ℤ◌, ◌-ℤ◌, ◌*ℤ◌, neg_ℤ, nat_le, nat_lt, if◌then◌else◌}
 use Rattle.analog.specs.declared.types.Factors.{Factors}
 use Rattle.analog.specs.declared.types.Series.{Series}
 use Rattle.analog.specs.Round.{round, low_64}

@@ -1,6 +1,5 @@
 -- Rounding and casts of analog.rs, over the integers.
-use Rattle.std.specs.Prelude.{ℕ, ◌-◌, ◌/◌, ◌%◌, ◌^◌, ℤ, pos, negsuc, ◌+ℤ◌, ◌-ℤ◌, int_div, int_lt, nat_lt}
-use Rattle.laws.specs.Notation.{if◌then◌else◌}
+use Rattle.std.specs.Prelude.{ℕ, ◌-◌, ◌/◌, ◌%◌, ◌^◌, ℤ, pos, negsuc, ◌+ℤ◌, ◌-ℤ◌, int_div, int_lt, nat_lt, if◌then◌else◌}
 
 -- `round`: half of the divisor away from zero, then the quotient towards zero
 unfoldable pub round : (n : ℤ) (d : ℕ) → ℤ

@@ -1,6 +1,5 @@
 -- Numbers of a sign and a size, for products of 128 bits.
-use Rattle.std.specs.Prelude.{ℕ, ◌+◌, ◌*◌, ◌^◌, Bool, ℤ, pos, neg_ℤ}
-use Rattle.laws.specs.Notation.{if◌then◌else◌}
+use Rattle.std.specs.Prelude.{ℕ, ◌+◌, ◌*◌, ◌^◌, Bool, ℤ, pos, neg_ℤ, if◌then◌else◌}
 use Rattle.analog.specs.declared.wide.Signed.{Signed}
 use Rattle.analog.specs.declared.wide.Wide.{Wide}
 

@@ -1,6 +1,5 @@
 -- A block of input, as the code meets it.
-use Rattle.std.specs.Prelude.{Bool, List, ℕ, ◌-◌, leb, length, get_or}
-use Rattle.laws.specs.Notation.{if◌then◌else◌}
+use Rattle.std.specs.Prelude.{Bool, List, ℕ, ◌-◌, leb, length, get_or, if◌then◌else◌}
 use Rattle.machine.specs.Machine.{Running}
 use Rattle.machine.specs.Block as M
 use Rattle.commands.specs.Decode.{wants}

@@ -1,16 +1,14 @@
 -- What a command leaves and answers, and the line that is written of it (01, "Bench program").
-use Rattle.std.specs.Prelude.{◌≡◌, Bool, List, [], ◌∷◌, ◌++◌, ℕ, eqb}
-use Rattle.laws.specs.Notation.{if◌then◌else◌, Image}
+use Rattle.std.specs.Prelude.{◌≡◌, Bool, List, [], ◌∷◌, ◌++◌, ℕ, eqb, if◌then◌else◌}
+use Rattle.laws.specs.Notation.{Image}
 use Rattle.time.specs.declared.Time.{Time}
 use Rattle.commands.specs.declared.Command.{Command}
-use Rattle.commands.specs.declared.Command.TheVariants as Command
 use Rattle.calls.specs.declared.types.Starting.{Starting}
 use Rattle.calls.specs.Table as R
 use Rattle.bma150.specs.declared.host.Bma150.{Bma150}
 use Rattle.bma150.specs.Values.{drive_letter, report_values, view_value, mark_letter}
 use Rattle.bma150.specs.Called.{Added, Called, called, start_number, after_start, interrupt, output, data_output, next_due}
 use Rattle.bench.specs.declared.types.Extra.{Extra}
-use Rattle.bench.specs.declared.types.Extra.TheVariants as Extra
 use Rattle.bench.specs.declared.types.Reply.{Reply}
 use Rattle.bench.specs.Text.{space, line_feed, hex, word, bit, view_text, mark_text, report_text, image_text, due_text}
 

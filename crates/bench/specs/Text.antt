@@ -1,7 +1,7 @@
 -- The pieces of a line as ASCII bytes (01, "Bench program").
-use Rattle.std.specs.Prelude.{Bool, List, [], ◌∷◌, ◌++◌, ℕ, ◌+◌, ◌/◌, ◌%◌, ltb, eqb}
+use Rattle.std.specs.Prelude.{Bool, List, [], ◌∷◌, ◌++◌, ℕ, ◌+◌, ◌/◌, ◌%◌, ltb, eqb, if◌then◌else◌}
 use Rattle.std.proofs.Math.Option.{Option, none, some}
-use Rattle.laws.specs.Notation.{if◌then◌else◌, ascii}
+use Rattle.laws.specs.Notation.{ascii}
 use Rattle.time.specs.declared.Time.{Time}
 
 abbrev pub space : ℕ

@@ -1,6 +1,5 @@
 -- What the bench program's loop does: turns, each of which reads, or serves a block and hands its text to `write`.
-use Rattle.std.specs.Prelude.{◌≡◌, Bool, true, false, not, ◌⊎◌, List, [], ◌++◌, ℕ, ◌+◌, ◌-◌, ◌^◌, ◌≤◌, ltb, eqb, length, take, drop}
-use Rattle.laws.specs.Notation.{if◌then◌else◌}
+use Rattle.std.specs.Prelude.{◌≡◌, Bool, true, false, not, ◌⊎◌, List, [], ◌++◌, ℕ, ◌+◌, ◌-◌, ◌^◌, ◌≤◌, ltb, eqb, length, take, drop, if◌then◌else◌}
 use Rattle.sensor.specs.Image.{stock}
 use Rattle.calls.specs.declared.types.Starting.TheVariants as Starting
 use Rattle.bma150.specs.declared.host.Bma150.{Bma150}

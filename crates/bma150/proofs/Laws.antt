@@ -2,7 +2,6 @@
 use mathlib.Core.Path.{◌≡◌, refl}
 use Rattle.time.specs.declared.Time.{Time}
 use Rattle.calls.specs.declared.types.Timed.{Timed}
-use Rattle.calls.specs.declared.types.Timed.TheVariants as Timed
 use Rattle.sensor.specs.declared.types.Sensor.{Sensor}
 use Rattle.bma150.specs.Values.{report_values}
 use Rattle.bma150.specs.Called.{reported, effect, timed_adds}

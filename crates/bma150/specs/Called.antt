@@ -8,9 +8,7 @@ use Rattle.registers.specs.Map.{measurement}
 use Rattle.spi.specs.declared.types.Drive.{Drive}
 use Rattle.deadlines.specs.Deadlines.{moment}
 use Rattle.calls.specs.declared.types.Timed.{Timed}
-use Rattle.calls.specs.declared.types.Timed.TheVariants as Timed
 use Rattle.calls.specs.declared.types.Call.{Call}
-use Rattle.calls.specs.declared.types.Call.TheVariants as Call
 use Rattle.calls.specs.declared.types.Starting.{Starting}
 use Rattle.calls.specs.Table.{refusal, start_refusal, unless_refused}
 use Rattle.sensor.specs.declared.types.Sensor.{Sensor}

@@ -2,13 +2,9 @@
 use Rattle.std.specs.Prelude.{ℕ, List, [], ◌∷◌}
 use Rattle.std.proofs.Math.Option.{Option, none, some}
 use Rattle.spi.specs.declared.types.Drive.{Drive}
-use Rattle.spi.specs.declared.types.Drive.TheVariants as Drive
 use Rattle.sensor.specs.declared.types.View.{View}
-use Rattle.sensor.specs.declared.types.View.TheVariants as View
 use Rattle.sensor.specs.declared.types.Mark.{Mark}
-use Rattle.sensor.specs.declared.types.Mark.TheVariants as Mark
 use Rattle.waits.specs.declared.types.Report.{Report}
-use Rattle.waits.specs.declared.types.Report.TheVariants as Report
 
 -- F, L or H
 unfoldable pub drive_letter : Drive → ℕ

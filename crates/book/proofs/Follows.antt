@@ -9,19 +9,15 @@ use Rattle.time.specs.Time.{same}
 use Rattle.nv.specs.Cycle as Cycle
 use Rattle.i2c.specs.declared.types.Levels.{Levels}
 use Rattle.i2c.specs.declared.types.Edge.{Edge}
-use Rattle.i2c.specs.declared.types.Edge.TheVariants as Edge
 use Rattle.i2c.specs.Bus.{data_moves, edge, is_start}
 use Rattle.calls.specs.declared.types.Timed.{Timed}
-use Rattle.calls.specs.declared.types.Timed.TheVariants as Timed
 use Rattle.calls.specs.declared.types.Call.{Call}
-use Rattle.calls.specs.declared.types.Call.TheVariants as Call
 use Rattle.calls.specs.Table as T
 use Rattle.calls.proofs.Theorems.Found.{never}
 use Rattle.calls.proofs.Theorems.Exactly.{follows_on}
 use Rattle.calls.proofs.Theorems.Left.{accepted_is, refused_is}
 use Rattle.sensor.specs.declared.types.Kept.{Kept}
 use Rattle.sensor.specs.declared.types.Operation.{Operation}
-use Rattle.sensor.specs.declared.types.Operation.TheVariants as Operation
 use Rattle.sensor.specs.declared.types.Sensor.{Sensor}
 use Rattle.sensor.specs.Record.{lines_kept}
 use Rattle.sensor.specs.Image.{new_kept}

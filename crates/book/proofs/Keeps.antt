@@ -6,14 +6,11 @@ use mathlib.Core.List.{List}
 use Rattle.time.specs.declared.Time.{Time}
 use Rattle.i2c.specs.declared.types.Edge.{Edge}
 use Rattle.spi.specs.declared.types.Serial.{Serial}
-use Rattle.spi.specs.declared.types.Serial.TheVariants as Serial
 use Rattle.spi.specs.declared.types.Frame.{Frame}
 use Rattle.spi.specs.declared.types.Sent.{Sent}
 use Rattle.spi.specs.declared.types.Clocked.{Clocked}
 use Rattle.spi.specs.declared.types.Shift.{Shift}
-use Rattle.spi.specs.declared.types.Shift.TheVariants as Shift
 use Rattle.control.specs.declared.types.WriteKind.{WriteKind}
-use Rattle.control.specs.declared.types.WriteKind.TheVariants as WriteKind
 use Rattle.sensor.specs.declared.types.Kept.{Kept}
 use Rattle.sensor.specs.declared.types.Writing.{Writing}
 use Rattle.sensor.specs.declared.types.Supply.{Supply}

@@ -13,12 +13,11 @@ use Rattle.deadlines.specs.Deadlines.{is_set}
 use Rattle.sensor.specs.declared.types.Kept.{Kept}
 use Rattle.calls.specs.declared.types.Timed.TheVariants as Timed
 use Rattle.calls.specs.declared.types.Call.{Call}
-use Rattle.calls.specs.declared.types.Call.TheVariants as Call
 use Rattle.bma150.specs.declared.host.Bma150.{Bma150}
 use Rattle.sensor.specs.declared.types.Sensor.{Sensor}
 use Rattle.sensor.specs.Record.{is_off}
 use Rattle.samples.specs.Samples.{sync_local_until}
-use Rattle.sensor.specs.Image.{image_at, nonvolatile, powered}
+use Rattle.sensor.specs.Image.{image_at, powered}
 use Rattle.waits.specs.Supply.{without_report, supply_low, supply_ok, returned, cold_return, warm_return, set_supply}
 use Rattle.calls.specs.Facts.{timed_facts, facts}
 use Rattle.calls.specs.Table as T

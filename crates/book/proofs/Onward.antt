@@ -11,11 +11,8 @@ use Rattle.time.specs.declared.Time.{Time}
 use Rattle.time.specs.Time.{ticks, time}
 use Rattle.analog.specs.declared.types.Analog.{Analog}
 use Rattle.calls.specs.declared.types.Timed.{Timed}
-use Rattle.calls.specs.declared.types.Timed.TheVariants as Timed
 use Rattle.calls.specs.declared.types.Call.{Call}
-use Rattle.calls.specs.declared.types.Call.TheVariants as Call
 use Rattle.calls.specs.declared.types.Dated.{Dated}
-use Rattle.calls.specs.declared.types.Dated.TheVariants as Dated
 use Rattle.calls.specs.Facts.{timed_facts, facts}
 use Rattle.calls.specs.Table as T
 use Rattle.calls.proofs.Theorems.Left.{clear, accepted_is, refused_is}

@@ -11,7 +11,6 @@ use Rattle.spi.specs.Frame as SF
 use Rattle.deadlines.specs.Deadlines as DD
 use Rattle.calls.specs.declared.types.Timed.TheVariants as Timed
 use Rattle.calls.specs.declared.types.Call.{Call}
-use Rattle.calls.specs.declared.types.Call.TheVariants as Call
 use Rattle.calls.specs.declared.types.Starting.TheVariants as Starting
 use Rattle.calls.specs.Facts as TF
 use Rattle.calls.specs.Table as T

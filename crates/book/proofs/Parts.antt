@@ -11,7 +11,6 @@ use Rattle.nv.specs.Cycle as Cycle
 use Rattle.deadlines.specs.declared.Deadline.TheVariants.{At, Never}
 use Rattle.deadlines.specs.Deadlines.{is_set}
 use Rattle.sensor.specs.declared.types.Operation.{Operation}
-use Rattle.sensor.specs.declared.types.Operation.TheVariants as Operation
 use Rattle.sensor.specs.declared.types.Supply.{Supply}
 use Rattle.sensor.specs.declared.types.Sensor.{Sensor}
 use Rattle.sensor.specs.Record.{is_off}

@@ -10,22 +10,15 @@ use Rattle.laws.specs.Bytes.{shifted_in}
 use Rattle.i2c.specs.declared.types.State.{State}
 use Rattle.i2c.specs.declared.types.Edge.{Edge}
 use Rattle.i2c.specs.declared.types.Action.{Action}
-use Rattle.i2c.specs.declared.types.Action.TheVariants as Action
 use Rattle.i2c.specs.Engine as E
 use Rattle.spi.specs.declared.types.Serial.{Serial}
-use Rattle.spi.specs.declared.types.Serial.TheVariants as Serial
 use Rattle.spi.specs.declared.types.Frame.{Frame}
 use Rattle.spi.specs.declared.types.Sent.{Sent}
-use Rattle.spi.specs.declared.types.Sent.TheVariants as Sent
 use Rattle.spi.specs.declared.types.Clocked.{Clocked}
-use Rattle.spi.specs.declared.types.Clocked.TheVariants as Clocked
 use Rattle.spi.specs.declared.types.FirstBit.{FirstBit}
-use Rattle.spi.specs.declared.types.FirstBit.TheVariants as FirstBit
 use Rattle.spi.specs.declared.types.Write.{Write}
-use Rattle.spi.specs.declared.types.Write.TheVariants as Write
 use Rattle.spi.specs.Frame as F
 use Rattle.control.specs.declared.types.WriteKind.{WriteKind}
-use Rattle.control.specs.declared.types.WriteKind.TheVariants as WriteKind
 use Rattle.control.specs.Theorems.Begins.{is_stored, stored_begins}
 use Rattle.sensor.specs.declared.types.Operation.TheVariants as Operation
 use Rattle.sensor.specs.declared.types.Writing.{Writing}

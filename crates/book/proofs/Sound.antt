@@ -20,7 +20,6 @@ use Rattle.deadlines.specs.declared.Deadline.TheVariants.{At, Never}
 use Rattle.deadlines.specs.Deadlines.{is_at, is_by, earliest}
 use Rattle.deadlines.proofs.Theorems.Earliest.{earliest_by_each}
 use Rattle.sensor.specs.declared.types.Operation.{Operation}
-use Rattle.sensor.specs.declared.types.Operation.TheVariants as Operation
 use Rattle.sensor.specs.declared.types.Sensor.{Sensor}
 use Rattle.sensor.specs.Record.{with_writing, is_off, automatic}
 use Rattle.sensor.specs.Record as Record

@@ -2,9 +2,7 @@
 use mathlib.Core.Bool.{false}
 use Rattle.time.specs.declared.Time.{Time}
 use Rattle.calls.specs.declared.types.Timed.{Timed}
-use Rattle.calls.specs.declared.types.Timed.TheVariants as Timed
 use Rattle.calls.specs.declared.types.Call.{Call}
-use Rattle.calls.specs.declared.types.Call.TheVariants as Call
 use Rattle.sensor.specs.declared.types.Sensor.{Sensor}
 use Rattle.samples.specs.Samples.{sync_local_until}
 use Rattle.bma150.specs.declared.host.Bma150.{Bma150}

@@ -1,21 +1,16 @@
 -- What an accepted call does to what is kept, to the supply and to the write book, said once for each call.
-use Rattle.std.specs.Prelude.{ℕ, Bool, false, not, ◌&&◌, ℤ}
+use Rattle.std.specs.Prelude.{ℕ, Bool, false, not, ◌&&◌, ℤ, if◌then◌else◌}
 use Rattle.std.proofs.Math.Option.{Option, none, some}
-use Rattle.laws.specs.Notation.{if◌then◌else◌}
 use Rattle.time.specs.declared.Time.{Time}
 use Rattle.i2c.specs.declared.types.Levels.{Levels}
 use Rattle.i2c.specs.declared.types.Edge.{Edge}
 use Rattle.i2c.specs.declared.types.Action.{Action}
-use Rattle.i2c.specs.declared.types.Action.TheVariants as Action
 use Rattle.i2c.specs.Bus.{edge}
 use Rattle.i2c.specs.Engine as E
 use Rattle.spi.specs.declared.types.Write.{Write}
-use Rattle.spi.specs.declared.types.Write.TheVariants as Write
 use Rattle.spi.specs.Frame as F
 use Rattle.calls.specs.declared.types.Timed.{Timed}
-use Rattle.calls.specs.declared.types.Timed.TheVariants as Timed
 use Rattle.calls.specs.declared.types.Call.{Call}
-use Rattle.calls.specs.declared.types.Call.TheVariants as Call
 use Rattle.sensor.specs.declared.types.Kept.{Kept}
 use Rattle.sensor.specs.declared.types.Sensor.{Sensor}
 use Rattle.sensor.specs.Record.{with_input, lines_kept, is_quiet, four_wire}

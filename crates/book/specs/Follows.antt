@@ -5,9 +5,7 @@ use Rattle.i2c.specs.declared.types.Levels.{Levels}
 use Rattle.i2c.specs.declared.types.Edge.TheVariants as Edge
 use Rattle.i2c.specs.Bus.{edge}
 use Rattle.calls.specs.declared.types.Timed.{Timed}
-use Rattle.calls.specs.declared.types.Timed.TheVariants as Timed
 use Rattle.calls.specs.declared.types.Call.{Call}
-use Rattle.calls.specs.declared.types.Call.TheVariants as Call
 use Rattle.book.specs.Lists.{Start, started, accepts, after, accepted}
 
 -- ---- the levels of the lines, told from the calls alone

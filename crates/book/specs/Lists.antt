@@ -1,14 +1,11 @@
 -- Lists of calls after a start (01, "Runs and the write book"): what they leave, answer and keep.
-use Rattle.std.specs.Prelude.{ℕ, ◌^◌, ◌<◌, ◌≡◌, Bool, true, false, ◌||◌, List, [], ◌∷◌, leb, eqb}
+use Rattle.std.specs.Prelude.{ℕ, ◌^◌, ◌<◌, ◌≡◌, Bool, true, false, ◌||◌, List, [], ◌∷◌, leb, eqb, if◌then◌else◌}
 use Rattle.std.proofs.Math.Option.{Option, none, some}
-use Rattle.laws.specs.Notation.{if◌then◌else◌}
 use Rattle.time.specs.declared.Time.{Time}
 use Rattle.spi.specs.declared.types.Drive.{Drive}
 use Rattle.deadlines.specs.declared.Deadline.{Deadline}
 use Rattle.calls.specs.declared.types.Timed.{Timed}
-use Rattle.calls.specs.declared.types.Timed.TheVariants as Timed
 use Rattle.calls.specs.declared.types.Call.{Call}
-use Rattle.calls.specs.declared.types.Call.TheVariants as Call
 use Rattle.calls.specs.declared.types.Starting.{Starting}
 use Rattle.sensor.specs.declared.types.Kept.{Kept}
 use Rattle.sensor.specs.Image.{new_kept}

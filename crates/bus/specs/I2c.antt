@@ -1,6 +1,5 @@
 -- The I2C bus as the reports of a list of calls have it, and what the sensor does on it.
-use Rattle.std.specs.Prelude.{ℕ, ◌≡◌, Bool, true, false, ◌&&◌, ◌||◌, List, [], ◌∷◌, ltb}
-use Rattle.laws.specs.Notation.{if◌then◌else◌}
+use Rattle.std.specs.Prelude.{ℕ, ◌≡◌, Bool, true, false, ◌&&◌, ◌||◌, List, [], ◌∷◌, ltb, if◌then◌else◌}
 use Rattle.time.specs.declared.Time.{Time}
 use Rattle.i2c.specs.declared.types.Edge.{Edge}
 use Rattle.i2c.specs.declared.types.Edge.TheVariants.{Still, Start, Stop, Rise, Fall}
@@ -12,11 +11,8 @@ use Rattle.i2c.specs.Target.{Target, target, deed, Seen}
 use Rattle.spi.specs.declared.types.Serial.TheVariants as Serial
 use Rattle.deadlines.specs.declared.Deadline.TheVariants.{Never}
 use Rattle.calls.specs.declared.types.Timed.{Timed}
-use Rattle.calls.specs.declared.types.Timed.TheVariants as Timed
 use Rattle.calls.specs.declared.types.Call.{Call}
-use Rattle.calls.specs.declared.types.Call.TheVariants as Call
 use Rattle.control.specs.declared.types.WriteKind.{WriteKind}
-use Rattle.control.specs.declared.types.WriteKind.TheVariants as WriteKind
 use Rattle.writes.specs.Write.{write_kind}
 use Rattle.sensor.specs.declared.types.Sensor.{Sensor}
 use Rattle.sensor.specs.Record.{is_off}
@@ -25,7 +21,7 @@ use Rattle.samples.specs.Samples.{sync_local_until}
 use Rattle.serial.specs.I2cPins.{ones_for}
 use Rattle.serial.specs.Outputs.{i2c_holds}
 use Rattle.bma150.specs.declared.host.Bma150.{Bma150}
-use Rattle.book.specs.Lists.{accepts, step, after, accepted}
+use Rattle.book.specs.Lists.{accepts, step, after}
 
 -- ---- a sensor that hears the bus: with supply, its pins not dead, SPI not selected and at rest, not quiet after a soft reset
 pub record Heard (s : Sensor) : Type 0 where

@@ -1,13 +1,11 @@
 -- The register writes that the pins make in a list of calls, as the write book asks for them.
-use Rattle.std.specs.Prelude.{List, [], ◌∷◌, ◌%◌}
-use Rattle.laws.specs.Notation.{if◌then◌else◌}
+use Rattle.std.specs.Prelude.{List, [], ◌∷◌, ◌%◌, if◌then◌else◌}
 use Rattle.i2c.specs.Target.{Seen}
 use Rattle.i2c.specs.Transfers.{Pair}
 use Rattle.spi.specs.Lines.{Deed, Wrote, Fetched, Noted}
 use Rattle.spi.specs.Lines as L
 use Rattle.spi.specs.Courses as P
 use Rattle.spi.specs.declared.types.Write.{Write}
-use Rattle.spi.specs.declared.types.Write.TheVariants as Write
 use Rattle.calls.specs.declared.types.Call.{Call}
 use Rattle.bma150.specs.declared.host.Bma150.{Bma150}
 use Rattle.book.specs.Does.{action_write, does}

@@ -1,2 +1,3 @@
 pub mod Facts
 pub mod Table
+pub mod Theorems

@@ -1,8 +1,7 @@
 -- 01's table of refusals: which one a call gets, from the last accepted time, next due, the I2C levels after the last accepted report, and the call.
-use Rattle.std.specs.Prelude.{ℕ, ◌^◌, Bool, false, not, ◌&&◌, ◌||◌, List, [], ◌∷◌, leb, eqb, ℤ, pos, neg_ℤ}
+use Rattle.std.specs.Prelude.{ℕ, ◌^◌, Bool, false, not, ◌&&◌, ◌||◌, List, [], ◌∷◌, leb, eqb, ℤ, pos, neg_ℤ, if◌then◌else◌}
 use Rattle.std.specs.Bool.{beq}
 use Rattle.std.specs.Int.Signed.{lt_z}
-use Rattle.laws.specs.Notation.{if◌then◌else◌}
 use Rattle.time.specs.declared.Time.{Time}
 use Rattle.time.specs.Time.{precedes}
 use Rattle.registers.specs.Map.{range, bandwidth}
@@ -11,21 +10,13 @@ use Rattle.deadlines.specs.declared.Deadline.{Deadline}
 use Rattle.deadlines.specs.Deadlines.{is_at, is_by}
 use Rattle.calls.specs.declared.types.Call.{Call}
 use Rattle.calls.specs.declared.types.Starting.{Starting}
-use Rattle.calls.specs.declared.types.Starting.TheVariants as Starting
 use Rattle.calls.specs.declared.types.Refusal.{Refusal}
-use Rattle.calls.specs.declared.types.Refusal.TheVariants as Refusal
 use Rattle.calls.specs.declared.types.Outcome.{Outcome}
-use Rattle.calls.specs.declared.types.Outcome.TheVariants as Outcome
 use Rattle.calls.specs.declared.types.Kind.{Kind}
-use Rattle.calls.specs.declared.types.Kind.TheVariants as Kind
 use Rattle.calls.specs.declared.types.Dated.{Dated}
-use Rattle.calls.specs.declared.types.Dated.TheVariants as Dated
 use Rattle.calls.specs.declared.types.Bytes.{Bytes}
-use Rattle.calls.specs.declared.types.Bytes.TheVariants as Bytes
 use Rattle.calls.specs.declared.types.Axes.{Axes}
-use Rattle.calls.specs.declared.types.Axes.TheVariants as Axes
 use Rattle.calls.specs.declared.types.Lines.{Lines}
-use Rattle.calls.specs.declared.types.Lines.TheVariants as Lines
 use Rattle.calls.specs.declared.types.Facts.{Facts}
 use Rattle.calls.specs.Facts.{facts}
 

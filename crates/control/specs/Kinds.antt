@@ -1,16 +1,13 @@
 -- What a write of a register does (the Rust's `write_register`). Addresses are hexadecimal.
-use Rattle.std.specs.Prelude.{ℕ, Bool, eqb}
+use Rattle.std.specs.Prelude.{ℕ, Bool, eqb, if◌then◌else◌}
 use Rattle.std.specs.Bool.{xor}
-use Rattle.laws.specs.Notation.{if◌then◌else◌, Byte, Address, cleared}
+use Rattle.laws.specs.Notation.{Byte, Address, cleared}
 use Rattle.registers.specs.Map as Map
 use Rattle.registers.specs.declared.access.Gate.{Gate}
 use Rattle.registers.specs.Access.{ignores, stored}
 use Rattle.control.specs.declared.types.WriteKind.{WriteKind}
-use Rattle.control.specs.declared.types.WriteKind.TheVariants as WriteKind
 use Rattle.control.specs.declared.types.SelfTest.{SelfTest}
-use Rattle.control.specs.declared.types.SelfTest.TheVariants as SelfTest
 use Rattle.control.specs.declared.types.Sleep.{Sleep}
-use Rattle.control.specs.declared.types.Sleep.TheVariants as Sleep
 
 -- ---- what a write does
 

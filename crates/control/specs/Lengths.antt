@@ -1,6 +1,5 @@
 -- How long acquisition and pauses last.
-use Rattle.std.specs.Prelude.{ℕ, ◌-◌, ◌*◌, ◌/◌, ◌%◌, ◌^◌, List, [], ◌∷◌, eqb, get_or}
-use Rattle.laws.specs.Notation.{if◌then◌else◌}
+use Rattle.std.specs.Prelude.{ℕ, ◌-◌, ◌*◌, ◌/◌, ◌%◌, ◌^◌, List, [], ◌∷◌, eqb, get_or, if◌then◌else◌}
 use Rattle.time.specs.declared.Duration.{Duration}
 use Rattle.time.specs.Time.{lasts, duration, from_millis}
 

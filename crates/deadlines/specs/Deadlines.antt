@@ -1,7 +1,6 @@
 -- The sensor's deadlines.
-use Rattle.std.specs.Prelude.{Bool, true, false, List, [], ◌∷◌, leb}
+use Rattle.std.specs.Prelude.{Bool, true, false, List, [], ◌∷◌, leb, if◌then◌else◌}
 use Rattle.std.proofs.Math.Option.{Option, none, some}
-use Rattle.laws.specs.Notation.{if◌then◌else◌}
 use Rattle.time.specs.declared.Time.{Time}
 use Rattle.time.specs.declared.Duration.{Duration}
 use Rattle.time.specs.Time.{ticks, plus, precedes, same}

@@ -35,9 +35,9 @@ pub record Holds (f : Filter) (axis : ℕ) (codes : List ℤ) : Type 0 where
   pub last : last_codes f axis ≡ take 64 (codes ++ replicate 64 (pos 0))
   pub count : get_or f.count (axis % 3) 0 ≡ min (length codes) 64
 
-holds-push : (f : Filter) (a axis : ℕ) (code : ℤ) (codes : List ℤ) → Sized f → Holds f axis codes
+holds_push : (f : Filter) (a axis : ℕ) (code : ℤ) (codes : List ℤ) → Sized f → Holds f axis codes
     → (t : Bool) → eqb (a % 3) (axis % 3) ≡ t → Holds (pushed f a code) axis (cond t (code ∷ codes) codes)
-holds-push f a axis code codes s h true e =
+holds_push f a axis code codes s h true e =
     let q : a % 3 ≡ axis % 3 = eqb-true (a % 3) (axis % 3) e in
     let all = codes ++ replicate 64 (pos 0) in
     let last : last_codes (pushed f a code) axis ≡ take 64 (code ∷ last_codes f axis) = rw q at (push_codes f a code s) in
@@ -46,7 +46,7 @@ holds-push f a axis code codes s h true e =
       last = last ∙ rw h.last (ap (λ (l : List ℤ). code ∷ l) (take-take 63 64 all (lit≤ tt)));
       count = count ∙ rw h.count (omega arith);
     }
-holds-push f a axis code codes s h false e =
+holds_push f a axis code codes s h false e =
     let apart : axis % 3 ≡ a % 3 → ⊥ = λ q. eqb-false (a % 3) (axis % 3) e (sym q) in
     record {
       last = push_keeps_codes f a code s axis apart ∙ h.last;
@@ -57,7 +57,7 @@ pub holds : (bandwidth axis : ℕ) (earlier : List Operation) → Holds (after b
 unfolding after codes_on
 holds bandwidth axis [] = record { last = new_codes bandwidth axis; count = same_everywhere 0 3 (axis % 3) }
 holds bandwidth axis (push a code ∷ earlier) =
-    holds-push (after bandwidth earlier) a axis code (codes_on axis earlier) (sized bandwidth earlier) (holds bandwidth axis earlier) (eqb (a % 3) (axis % 3)) refl
+    holds_push (after bandwidth earlier) a axis code (codes_on axis earlier) (sized bandwidth earlier) (holds bandwidth axis earlier) (eqb (a % 3) (axis % 3)) refl
 holds bandwidth axis (select b ∷ earlier) = let h = holds bandwidth axis earlier in record { last = h.last; count = h.count }
 
 -- ---- the answers
@@ -72,15 +72,15 @@ answers f axis code codes s h false e =
     let w = window f in
     let enough : w ≤ length (code ∷ codes) = ltb-false (length (code ∷ codes)) w e in
     let most : w ≤ 64 = omega (arith, window_le (min f.shift 6) (omega arith)) in
-    let then = holds-push f axis axis code codes s h true (eq-eqb (axis % 3) (axis % 3) refl) in
+    let then = holds_push f axis axis code codes s h true (eq-eqb (axis % 3) (axis % 3) refl) in
     answered_mean f axis code (rw h.count (omega arith))
     ∙ rw (then.last, take-take w 64 (code ∷ codes ++ replicate 64 (pos 0)) most, take-append-le w (code ∷ codes) (replicate 64 (pos 0)) enough)
 
 -- the answer to a code, after a new filter and any operations: 01's answer for the bandwidth in force and the codes pushed on that axis
-pub answers-as-said : (bandwidth : ℕ) (earlier : List Operation) (axis : ℕ) (code : ℤ)
+pub answers_as_said : (bandwidth : ℕ) (earlier : List Operation) (axis : ℕ) (code : ℤ)
     → answered (after bandwidth earlier) axis code ≡ answer (2 ^ shift_of (bandwidth_of bandwidth earlier)) code (codes_on axis earlier)
 unfolding answer
-answers-as-said bandwidth earlier axis code =
+answers_as_said bandwidth earlier axis code =
     let f = after bandwidth earlier in let codes = codes_on axis earlier in let b = bandwidth_of bandwidth earlier in
     let w : min (shift_of b) 6 ≡ shift_of b = omega arith in
     answers f axis code codes (sized bandwidth earlier) (holds bandwidth axis earlier) (ltb (length (code ∷ codes)) (window f)) refl
@@ -120,28 +120,28 @@ fullness f axis code codes h false e =
     is_full f axis code (rw h.count (omega arith))
 
 -- after a new filter and any operations: 01's word for the bandwidth in force and the codes pushed on that axis
-pub full-as-said : (bandwidth : ℕ) (earlier : List Operation) (axis : ℕ) (code : ℤ)
+pub full_as_said : (bandwidth : ℕ) (earlier : List Operation) (axis : ℕ) (code : ℤ)
     → full (after bandwidth earlier) axis ≡ is_mean (2 ^ shift_of (bandwidth_of bandwidth earlier)) code (codes_on axis earlier)
 unfolding is_mean
-full-as-said bandwidth earlier axis code =
+full_as_said bandwidth earlier axis code =
     let f = after bandwidth earlier in let codes = codes_on axis earlier in let b = bandwidth_of bandwidth earlier in
     let w : min (shift_of b) 6 ≡ shift_of b = omega arith in
     fullness f axis code codes (holds bandwidth axis earlier) (ltb (length (code ∷ codes)) (window f)) refl
     ∙ rw (shift_is bandwidth earlier, w)
 
 -- ---- computed: window 4 is full with the fourth code; M5's case, window 2 selected after three codes at window 1, is full at once; window 1 always is
-abbrev zero-code : Operation
-zero-code = push 1 (pos 0)
+abbrev zero_code : Operation
+zero_code = push 1 (pos 0)
 
-pub full-with-the-fourth : (full (after 4 []) 1 ≡ false) × (full (after 4 (zero-code ∷ [])) 1 ≡ false) × (full (after 4 (zero-code ∷ zero-code ∷ [])) 1 ≡ false)
-    × (full (after 4 (zero-code ∷ zero-code ∷ zero-code ∷ [])) 1 ≡ true)
+pub full_with_the_fourth : (full (after 4 []) 1 ≡ false) × (full (after 4 (zero_code ∷ [])) 1 ≡ false) × (full (after 4 (zero_code ∷ zero_code ∷ [])) 1 ≡ false)
+    × (full (after 4 (zero_code ∷ zero_code ∷ zero_code ∷ [])) 1 ≡ true)
 unfolding full after pushed
-full-with-the-fourth = (refl, refl, refl, refl)
+full_with_the_fourth = (refl, refl, refl, refl)
 
-pub full-after-select : full (after 6 (select 5 ∷ push 0 (pos 9) ∷ push 0 (pos 7) ∷ push 0 (pos 5) ∷ [])) 0 ≡ true
+pub full_after_select : full (after 6 (select 5 ∷ push 0 (pos 9) ∷ push 0 (pos 7) ∷ push 0 (pos 5) ∷ [])) 0 ≡ true
 unfolding full after pushed
-full-after-select = refl
+full_after_select = refl
 
-pub one-is-full : full (after 6 []) 2 ≡ true
+pub one_is_full : full (after 6 []) 2 ≡ true
 unfolding full after
-one-is-full = refl
+one_is_full = refl

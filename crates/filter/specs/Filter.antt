@@ -1,6 +1,5 @@
 -- The filter of three axes on the declared record, as `new`, `window`, `select` and `push` leave it.
-use Rattle.std.specs.Prelude.{ℕ, ◌+◌, ◌-◌, ◌*◌, ◌%◌, ◌^◌, min, Bool, not, List, ltb, get_or, set, replicate, ℤ, pos}
-use Rattle.laws.specs.Notation.{if◌then◌else◌}
+use Rattle.std.specs.Prelude.{ℕ, ◌+◌, ◌-◌, ◌*◌, ◌%◌, ◌^◌, min, Bool, not, List, ltb, get_or, set, replicate, ℤ, pos, if◌then◌else◌}
 use Rattle.filter.specs.declared.Filter.{Filter}
 use Rattle.filter.specs.declared.RingState.{RingState}
 use Rattle.filter.specs.Mean.{ring, mean}

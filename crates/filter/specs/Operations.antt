@@ -1,6 +1,5 @@
--- What 01 says of a filter's answers after any operations on it; `answers-as-said` of proofs/Answers joins it to the filter.
-use Rattle.std.specs.Prelude.{ℕ, ◌%◌, Bool, not, List, [], ◌∷◌, ltb, eqb, length, ℤ}
-use Rattle.laws.specs.Notation.{if◌then◌else◌}
+-- What 01 says of a filter's answers after any operations on it; `answers_as_said` of proofs/Answers joins it to the filter.
+use Rattle.std.specs.Prelude.{ℕ, ◌%◌, Bool, not, List, [], ◌∷◌, ltb, eqb, length, ℤ, if◌then◌else◌}
 use Rattle.filter.specs.declared.Filter.{Filter}
 use Rattle.filter.specs.Mean.{mean}
 use Rattle.filter.specs.Filter.{made, selected, pushed}

@@ -1,6 +1,6 @@
 -- The I2C engine: one report of the lines, in the order of UM10204.
-use Rattle.std.specs.Prelude.{ℕ, ◌+◌, ◌-◌, ◌%◌, Bool, true, false, not, ◌&&◌, ◌||◌, leb, ltb, eqb}
-use Rattle.laws.specs.Notation.{if◌then◌else◌, Byte}
+use Rattle.std.specs.Prelude.{ℕ, ◌+◌, ◌%◌, Bool, true, false, not, ◌&&◌, ◌||◌, leb, ltb, eqb, if◌then◌else◌}
+use Rattle.laws.specs.Notation.{Byte}
 use Rattle.laws.specs.Bytes.{sent_bit, shifted_in}
 use Rattle.i2c.specs.declared.types.Edge.{Edge}
 use Rattle.i2c.specs.declared.types.Receive.{Receive}
@@ -15,7 +15,7 @@ use Rattle.i2c.specs.declared.types.State.{State}
 use Rattle.i2c.specs.declared.types.Action.{Action}
 use Rattle.i2c.specs.declared.types.Action.TheVariants as A
 use Rattle.i2c.specs.declared.types.Step.{Step}
-use Rattle.i2c.specs.Bus.{edge, is_condition, is_start, is_rise, is_fall, data_at}
+use Rattle.i2c.specs.Bus.{is_condition, is_start, is_rise, is_fall, data_at}
 
 -- ---- states
 

@@ -1,6 +1,5 @@
 -- The high-g and low-g criteria: a threshold with hysteresis on each axis, and the time that it has held. `high` tells high-g from low-g.
-use Rattle.std.specs.Prelude.{ℕ, ◌+◌, ◌-◌, ◌*◌, Bool, true, false, not, ◌&&◌, ◌||◌, List, leb, ltb, eqb, get_or, set, replicate, ℤ, nat_abs}
-use Rattle.laws.specs.Notation.{if◌then◌else◌}
+use Rattle.std.specs.Prelude.{ℕ, ◌+◌, ◌-◌, ◌*◌, Bool, true, false, not, ◌&&◌, ◌||◌, List, leb, ltb, eqb, get_or, set, replicate, ℤ, nat_abs, if◌then◌else◌}
 use Rattle.interrupts.specs.declared.threshold.Threshold.{Threshold}
 use Rattle.interrupts.specs.declared.threshold.Ticked.{Ticked}
 

@@ -1,6 +1,6 @@
 -- What the interrupt state shows: the status register's bits, the interrupt, and whether a candidate is being verified.
-use Rattle.std.specs.Prelude.{ℕ, ◌+◌, Bool, true, false, not, ◌&&◌, ◌||◌, ltb}
-use Rattle.laws.specs.Notation.{if◌then◌else◌, Byte, Registers}
+use Rattle.std.specs.Prelude.{ℕ, ◌+◌, Bool, true, false, not, ◌&&◌, ◌||◌, ltb, if◌then◌else◌}
+use Rattle.laws.specs.Notation.{Byte, Registers}
 use Rattle.registers.specs.Map.{at, criteria, operation, alert, any_motion, enable_HG, enable_LG, enable_adv_INT, latch_INT}
 use Rattle.interrupts.specs.declared.threshold.Threshold.{Threshold}
 use Rattle.interrupts.specs.declared.Interrupts.{Interrupts}

@@ -1,6 +1,6 @@
 -- The interrupt state and its steps, under the names of the Rust's functions.
-use Rattle.std.specs.Prelude.{ℕ, ◌+◌, ◌-◌, ◌*◌, ◌%◌, min, Bool, true, false, not, ◌&&◌, ◌||◌, List, [], ◌∷◌, leb, ltb, eqb, get_or, set, replicate, ℤ, pos, nat_abs, ◌-ℤ◌}
-use Rattle.laws.specs.Notation.{if◌then◌else◌, Registers}
+use Rattle.std.specs.Prelude.{ℕ, ◌+◌, ◌-◌, ◌*◌, ◌%◌, min, Bool, true, false, not, ◌&&◌, ◌||◌, List, [], ◌∷◌, leb, ltb, eqb, get_or, set, replicate, ℤ, pos, nat_abs, ◌-ℤ◌, if◌then◌else◌}
+use Rattle.laws.specs.Notation.{Registers}
 use Rattle.registers.specs.Map.{at, criteria, LG_thres, LG_dur, HG_thres, HG_dur, any_motion_thres, hysteresis, operation, alert, any_motion, enable_HG, enable_LG, counter_HG, counter_LG, any_motion_dur, HG_hyst, LG_hyst, enable_adv_INT}
 use Rattle.interrupts.specs.declared.threshold.Threshold.{Threshold}
 use Rattle.interrupts.specs.declared.threshold.Ticked.{Ticked}

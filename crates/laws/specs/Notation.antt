@@ -1,13 +1,8 @@
 -- What the definitions of every crate are written with.
-use Rattle.std.specs.Prelude.{ℕ, zero, suc, ◌+◌, ◌-◌, ◌^◌, ◌≡◌, refl, Bool, cond, List, [], ◌∷◌}
+use Rattle.std.specs.Prelude.{ℕ, zero, suc, ◌+◌, ◌-◌, ◌^◌, ◌≡◌, refl, List, [], ◌∷◌}
 use Prim.Native.Char.{code}
 use Prim.Native.String.{String, len, char_at}
 use Rattle.std.specs.Int.Bits.{bit_and, bit_or}
-
--- x where b is true, else y
-infixr 1 if◌then◌else◌
-abbrev pub if◌then◌else◌ : {A : Type 0} (b : Bool) (x y : A) → A
-if◌then◌else◌ b x y = cond b x y
 
 -- a byte, a register's address, and the bytes of an image or of the registers in order
 abbrev pub Byte : Type 0

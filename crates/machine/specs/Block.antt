@@ -1,6 +1,5 @@
 -- A block: turns while a whole command is left and its text fits.
-use Rattle.std.specs.Prelude.{Bool, false, List, [], ℕ, ltb, length, get_or}
-use Rattle.laws.specs.Notation.{if◌then◌else◌}
+use Rattle.std.specs.Prelude.{Bool, false, List, [], ℕ, ltb, length, get_or, if◌then◌else◌}
 use Rattle.laws.specs.Iterate.{iterate}
 use Rattle.machine.specs.Machine.{Machine, Running, running, turn}
 

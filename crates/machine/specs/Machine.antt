@@ -1,6 +1,5 @@
 -- A machine that reads bytes and writes text, a command at a time, and its run over a whole input.
-use Rattle.std.specs.Prelude.{◌≡◌, Bool, false, List, [], ◌++◌, ℕ, ◌≤◌, ◌<◌, ltb, length, drop, get_or}
-use Rattle.laws.specs.Notation.{if◌then◌else◌}
+use Rattle.std.specs.Prelude.{◌≡◌, Bool, false, List, [], ◌++◌, ℕ, ◌≤◌, ◌<◌, ltb, length, drop, get_or, if◌then◌else◌}
 use Rattle.laws.specs.Iterate.{iterate}
 
 -- what a command does: the state that it leaves, the bytes that it takes, the text that it writes, and whether the machine stops at it

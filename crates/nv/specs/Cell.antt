@@ -1,7 +1,7 @@
 -- The byte of a cell during and after a stored write (01, "Torn byte"; devices/nv.rs).
-use Rattle.std.specs.Prelude.{ℕ, zero, suc, ◌+◌, ◌-◌, ◌*◌, ◌/◌, ◌%◌, ◌^◌, max, Bool, leb, ltb, eqb}
+use Rattle.std.specs.Prelude.{ℕ, zero, suc, ◌+◌, ◌-◌, ◌*◌, ◌/◌, ◌%◌, ◌^◌, max, Bool, leb, ltb, eqb, if◌then◌else◌}
 use Rattle.std.specs.Int.Bits.{bit_xor, bit_and}
-use Rattle.laws.specs.Notation.{if◌then◌else◌, Address}
+use Rattle.laws.specs.Notation.{Address}
 use Rattle.laws.specs.Bytes.{bit_value}
 
 -- ---- lengths, in units of 2^-64 s

@@ -7,7 +7,6 @@ use lib.Dec.{eqb, ltb}
 use lib.ListN.{length, get_or}
 use Rattle.time.specs.declared.Time.{Time}
 use Rattle.calls.specs.declared.types.Call.{Call}
-use Rattle.calls.specs.declared.types.Call.TheVariants as Call
 use Rattle.calls.specs.declared.types.Starting.{Starting}
 use Rattle.samples.specs.Samples.{interaction_deadline}
 use Rattle.bma150.specs.declared.host.Bma150.{Bma150}
@@ -16,7 +15,6 @@ use Rattle.bma150.proofs.Theorems.Added.{view_leaves}
 use Rattle.book.specs.Lists as C
 use Rattle.book.specs.Lists.{Answer, answer, answers}
 use Rattle.commands.specs.declared.Command.{Command}
-use Rattle.commands.specs.declared.Command.TheVariants as Command
 use Rattle.commands.specs.Decode.{decoded, image}
 use Rattle.bench.specs.Line as L
 use Rattle.laws.specs.Iterate.{iterate}

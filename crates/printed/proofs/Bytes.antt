@@ -8,7 +8,6 @@ use borrow.Author.Tests.{eqb-true}
 use Rattle.time.specs.declared.Time.{Time}
 use Rattle.calls.specs.declared.types.Timed.TheVariants as Timed
 use Rattle.calls.specs.declared.types.Call.{Call}
-use Rattle.calls.specs.declared.types.Call.TheVariants as Call
 use Rattle.calls.specs.Table.{unless_refused}
 use Rattle.bma150.specs.declared.host.Bma150.{Bma150}
 use Rattle.bma150.specs.Called.{Added, Called, adds, number, called, start_number}

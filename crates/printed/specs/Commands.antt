@@ -1,6 +1,5 @@
 -- The commands that an input has, and their lines, whatever its bytes (01, "Bench program").
-use Rattle.std.specs.Prelude.{Bool, List, [], ◌∷◌, ◌++◌, map, ℕ, zero, suc, ◌<◌, length, drop, get_or}
-use Rattle.laws.specs.Notation.{if◌then◌else◌}
+use Rattle.std.specs.Prelude.{Bool, List, [], ◌∷◌, ◌++◌, map, ℕ, zero, suc, ◌<◌, length, drop, get_or, if◌then◌else◌}
 use Rattle.bma150.specs.declared.host.Bma150.{Bma150}
 use Rattle.commands.specs.declared.Command.{Command}
 use Rattle.commands.specs.Decode.{decoded, image, size, is_bad}

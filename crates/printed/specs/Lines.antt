@@ -7,7 +7,6 @@ use Rattle.calls.specs.declared.types.Call.{Call}
 use Rattle.bma150.specs.declared.host.Bma150.{Bma150}
 use Rattle.bma150.specs.Values.{drive_letter}
 use Rattle.commands.specs.declared.Command.{Command}
-use Rattle.commands.specs.declared.Command.TheVariants as Command
 use Rattle.book.specs.Lists.{Answer, answer}
 use Rattle.book.specs.Lists as C
 use Rattle.bench.specs.Text.{space, line_feed, hex, word, bit, due_text}

@@ -1,6 +1,6 @@
 -- Reads of the acceleration registers, 02..07: a pair of bytes held from the low byte to the high byte.
-use Rattle.std.specs.Prelude.{ℕ, ◌+◌, ◌-◌, ◌*◌, ◌/◌, ◌%◌, Bool, true, false, ◌&&◌, List, [], ◌∷◌, leb, eqb, get_or, set}
-use Rattle.laws.specs.Notation.{if◌then◌else◌, Byte, Address}
+use Rattle.std.specs.Prelude.{ℕ, ◌+◌, ◌-◌, ◌*◌, ◌/◌, ◌%◌, Bool, true, false, ◌&&◌, List, [], ◌∷◌, leb, eqb, get_or, set, if◌then◌else◌}
+use Rattle.laws.specs.Notation.{Byte, Address}
 use Rattle.registers.specs.Map.{acc_lsb, acc_msb}
 use Rattle.reads.specs.declared.Reads.{Reads}
 use Rattle.reads.specs.declared.Prepared.{Prepared}

@@ -1,7 +1,6 @@
 -- Codes, offsets and temperatures, and the register bits that hold them.
-use Rattle.std.specs.Prelude.{ℕ, ◌+◌, ◌-◌, ◌*◌, ◌/◌, ◌%◌, ltb, eqb, ℤ, pos, negsuc, nat_abs, ◌+ℤ◌, ◌-ℤ◌, ◌*ℤ◌}
+use Rattle.std.specs.Prelude.{ℕ, ◌+◌, ◌-◌, ◌*◌, ◌/◌, ◌%◌, ltb, eqb, ℤ, pos, negsuc, nat_abs, ◌+ℤ◌, ◌-ℤ◌, ◌*ℤ◌, if◌then◌else◌}
 use Rattle.std.specs.Int.Signed.{lt_z, quot_z}
-use Rattle.laws.specs.Notation.{if◌then◌else◌}
 
 -- z clamped to lo..hi
 unfoldable pub held : (lo hi z : ℤ) → ℤ

@@ -1,30 +1,25 @@
 -- The marked rows of 01: each value computed from the definition that the contracts cite, beside the number that 01 prints.
-use Rattle.std.specs.Prelude.{ℕ, ◌^◌, ◌≡◌, refl, true, false, List, [], ◌∷◌, get_or, ℤ, pos, negsuc}
+use Rattle.std.specs.Prelude.{ℕ, ◌^◌, true, false, List, [], ◌∷◌, get_or, ℤ, pos, negsuc}
 use Rattle.laws.specs.Notation.{Address}
-use Rattle.laws.specs.Rows.{Row, answer, all}
+use Rattle.laws.specs.Rows.{Row, answer}
 use Rattle.time.specs.Time.{ticks, time}
 use Rattle.time.specs.Clock.{edge}
-use Rattle.filter.specs.Mean.{tabulate, ring, sumZ, mean}
-use Rattle.filter.specs.Filter.{pushed, answered}
+use Rattle.filter.specs.Filter.{answered}
 use Rattle.filter.specs.Operations.{push, select, after}
 use Rattle.registers.specs.declared.access.Gate.{Gate}
-use Rattle.registers.specs.Access.{unwritable, working, stored, image_blocks, sleep_blocks, locked, ignores, begins}
-use Rattle.registers.specs.Codes.{held, range_g, code}
-use Rattle.interrupts.specs.Criteria.{sets, clears, raised, observe}
-use Rattle.interrupts.specs.State.{axis, configure}
+use Rattle.registers.specs.Access.{ignores, begins}
+use Rattle.registers.specs.Codes.{code}
+use Rattle.interrupts.specs.State.{axis}
 use Rattle.deadlines.specs.declared.Deadline.{Deadline}
 use Rattle.deadlines.specs.declared.Deadline.TheVariants.{At, Never}
-use Rattle.deadlines.specs.Deadlines.{is_set, is_by, sooner, first, earliest}
 use Rattle.sensor.specs.declared.types.Sensor.{Sensor}
 use Rattle.sensor.specs.Record.{is_off}
-use Rattle.sensor.specs.Image.{from_nonvolatile, stock, new_kept, shadowing}
-use Rattle.samples.specs.Samples.{samples_run, next_sample, write_end, sample_due, next_deadline, interaction_deadline}
-use Rattle.sensor.specs.Select.{may_select, selected_to}
+use Rattle.sensor.specs.Image.{from_nonvolatile, stock, new_kept}
+use Rattle.samples.specs.Samples.{interaction_deadline}
 use Rattle.waits.specs.Supply as Supply
 use Rattle.calls.specs.declared.types.Timed.TheVariants as Timed
 use Rattle.calls.specs.declared.types.Call.TheVariants as Call
-use Rattle.calls.specs.Facts.{timed_facts, facts}
-use Rattle.calls.specs.Table.{wrong_length, beyond, any_beyond, out_of_range, jumps, late, too_late, goes_back, due_by, before_due, beside_due, first_found, refusal}
+use Rattle.calls.specs.Table.{refusal}
 
 -- M1, M2: an edge of a clock that starts at 0, in units
 abbrev edge_at : ℕ → ℤ
@@ -88,7 +83,3 @@ rows =
     ∷ record { number = 12; computed = refused_axis 1000000000; printed = pos 0 }
     ∷ record { number = 12; computed = refused_axis 1000000001; printed = pos 2 }
     ∷ []
-
-pub rows_hold : all rows ≡ true
-unfolding after pushed answered ring tabulate sumZ mean axis observe raised sets clears code held range_g ignores unwritable image_blocks sleep_blocks locked working begins stored configure is_set is_by sooner first earliest samples_run next_sample write_end sample_due next_deadline may_select selected_to Supply.cut Supply.supply_low Supply.supply_ok Supply.set_supply shadowing timed_facts facts wrong_length beyond any_beyond out_of_range jumps late too_late goes_back due_by before_due beside_due first_found refusal
-rows_hold = refl

@@ -8,9 +8,7 @@ use Rattle.laws.specs.Bytes.{sent_bit}
 use Rattle.time.specs.declared.Time.{Time}
 use Rattle.registers.specs.Access.{begins}
 use Rattle.calls.specs.declared.types.Timed.{Timed}
-use Rattle.calls.specs.declared.types.Timed.TheVariants as Timed
 use Rattle.calls.specs.declared.types.Call.{Call}
-use Rattle.calls.specs.declared.types.Call.TheVariants as Call
 use Rattle.sensor.specs.declared.types.Sensor.{Sensor}
 use Rattle.sensor.specs.Record.{gate, is_writing}
 use Rattle.samples.specs.Samples.{sync_local_until}

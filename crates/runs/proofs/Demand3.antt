@@ -7,20 +7,19 @@ use mathlib.Core.List.{List, [], ◌∷◌}
 use native.Mathlib.Omega.{arith}
 use mathlib.Core.Option.{none}
 use lib.ListN.{length}
-use borrow.Author.Tests.{leb-true, le-leb, lt-leb, eqb-true, eq-eqb}
+use borrow.Author.Tests.{leb-true, le-leb, eqb-true, eq-eqb}
 use Rattle.time.specs.declared.Time.{Time}
 use Rattle.deadlines.specs.declared.Deadline.{Deadline}
 use Rattle.calls.specs.declared.types.Timed.TheVariants as Timed
 use Rattle.calls.specs.declared.types.Call.{Call}
-use Rattle.calls.specs.declared.types.Call.TheVariants as Call
-use Rattle.calls.specs.Table as T
 use Rattle.calls.proofs.Theorems.Left.{accepted_is, refused_is}
-use Rattle.calls.proofs.Theorems.Exactly.{TurnedDown, start_refused_whole}
+use Rattle.calls.specs.Theorems.Exactly.{TurnedDown}
+use Rattle.calls.proofs.Theorems.Exactly.{start_refused_whole}
 use Rattle.sensor.specs.declared.types.Kept.{Kept}
 use Rattle.sensor.specs.Image.{cell_byte, new_kept}
 use Rattle.samples.specs.Samples.{interaction_deadline}
 use Rattle.bma150.specs.declared.host.Bma150.{Bma150}
-use Rattle.bma150.specs.Called.{Added, measurement_of, start_number, started, leaves, called}
+use Rattle.bma150.specs.Called.{Added, measurement_of, start_number, leaves, called}
 use Rattle.book.specs.Does.{timed_does, does}
 use Rattle.book.specs.Lists.{Answer, answer, accepts, step, Start, after, answers, accepted, Fractions, met_zero, last_kept, Returns}
 use Rattle.book.specs.Lists as L

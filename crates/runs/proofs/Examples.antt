@@ -13,7 +13,6 @@ use Rattle.nv.specs.Cell.{write_length}
 use Rattle.sensor.specs.Image.{stock, new_kept}
 use Rattle.calls.specs.declared.types.Timed.TheVariants as Timed
 use Rattle.calls.specs.declared.types.Call.{Call}
-use Rattle.calls.specs.declared.types.Call.TheVariants as Call
 use Rattle.calls.specs.declared.types.Starting.TheVariants as Starting
 use Rattle.bma150.specs.declared.host.Bma150.{Bma150}
 use Rattle.bma150.specs.Called.{Added, number, start_number}

@@ -17,24 +17,17 @@ use Rattle.i2c.specs.declared.types.Levels.{Levels}
 use Rattle.deadlines.specs.declared.Deadline.{Deadline}
 use Rattle.deadlines.proofs.Theorems.Earliest.{moment_injective}
 use Rattle.calls.specs.declared.types.Timed.{Timed}
-use Rattle.calls.specs.declared.types.Timed.TheVariants as Timed
 use Rattle.calls.specs.declared.types.Call.{Call}
-use Rattle.calls.specs.declared.types.Call.TheVariants as Call
 use Rattle.calls.specs.declared.types.Starting.{Starting}
-use Rattle.calls.specs.declared.types.Starting.TheVariants as Starting
 use Rattle.calls.specs.declared.types.Bytes.TheVariants as Bytes
 use Rattle.calls.specs.declared.types.Refusal.{Refusal}
-use Rattle.calls.specs.declared.types.Refusal.TheVariants as Refusal
 use Rattle.calls.specs.declared.types.Outcome.{Outcome}
-use Rattle.calls.specs.declared.types.Outcome.TheVariants as Outcome
-use Rattle.calls.specs.Facts.{bringing, facts}
+use Rattle.calls.specs.Facts.{facts}
 use Rattle.calls.specs.Table as T
 use Rattle.calls.proofs.Theorems.Left.{temperature_accepted, select_accepted, view_accepted}
-use Rattle.sensor.specs.declared.types.View.{View}
 use Rattle.sensor.specs.RegisterReads.{viewed}
 use Rattle.samples.specs.Samples.{interaction_deadline}
 use Rattle.waits.specs.declared.types.Report.{Report}
-use Rattle.waits.specs.declared.types.Report.TheVariants as Report
 use Rattle.bma150.specs.declared.types.Replied.{Replied}
 use Rattle.bma150.specs.declared.types.Reported.{Reported}
 use Rattle.bma150.specs.declared.host.Bma150.{Bma150}

@@ -1,5 +1,5 @@
 -- Hosts that are wrong, each in one thing; demand 3 does not hold of them. They try the statement as must-fail edits try the code: one with fewer lists, fewer answers or less to say does not refuse them.
-use Prim.Native.Nat.{ℕ, ◌+◌, ◌/◌, ◌^◌, ◌≤◌, ◌<◌}
+use Prim.Native.Nat.{ℕ, ◌+◌, ◌/◌, ◌^◌, ◌<◌}
 use native.Mathlib.Omega.{arith}
 use mathlib.Core.Path.{◌≡◌, refl, sym, ap, ◌∙◌}
 use mathlib.Core.Bool.{true, false}
@@ -8,16 +8,12 @@ use mathlib.Core.Option.{Option, none, some}
 use lib.Dec.{lit<, lit≤}
 use lib.IntN.{pos}
 use lib.ListN.{get_or}
-use Rattle.laws.specs.Notation.{if◌then◌else◌}
 use Rattle.time.specs.declared.Time.{Time}
 use Rattle.time.specs.Time.{time}
 use Rattle.i2c.specs.declared.types.State.{State}
 use Rattle.deadlines.specs.declared.Deadline.TheVariants.{Never}
 use Rattle.calls.specs.declared.types.Timed.{Timed}
-use Rattle.calls.specs.declared.types.Timed.TheVariants as Timed
 use Rattle.calls.specs.declared.types.Call.{Call}
-use Rattle.calls.specs.declared.types.Call.TheVariants as Call
-use Rattle.sensor.specs.declared.types.Sensor.{Sensor}
 use Rattle.sensor.specs.Record.{with_i2c, with_nonvolatile}
 use Rattle.sensor.specs.Image.{stock, new_kept}
 use Rattle.samples.specs.Samples.{interaction_deadline}

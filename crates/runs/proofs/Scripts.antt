@@ -11,7 +11,6 @@ use Rattle.i2c.specs.declared.types.Levels.{Levels}
 use Rattle.sensor.specs.Image.{stock}
 use Rattle.calls.specs.declared.types.Timed.TheVariants as Timed
 use Rattle.calls.specs.declared.types.Call.{Call}
-use Rattle.calls.specs.declared.types.Call.TheVariants as Call
 use Rattle.calls.specs.declared.types.Starting.TheVariants as Starting
 use Rattle.book.specs.Lists.{Start, Fractions}
 

@@ -1,5 +1,5 @@
 -- Demand 3 of 01, and what is delivered. docs/PROOF.md reads this file line by line.
-use Rattle.std.specs.Prelude.{ℕ, ◌%◌, ◌^◌, ◌≤◌, ◌<◌, ◌≡◌, true, false, List, [], ◌∷◌, ◌++◌, eqb, length}
+use Rattle.std.specs.Prelude.{ℕ, ◌%◌, ◌^◌, ◌≤◌, ◌<◌, ◌≡◌, true, false, List, [], ◌∷◌, ◌++◌, eqb, length, if◌then◌else◌}
 use Rattle.std.proofs.Math.Option.{Option, none, some}
 use seplogic.Ra.Ura.{Ura}
 use base.Logic.{SProp}
@@ -7,18 +7,16 @@ use prog.Memory.{Memory}
 use prog.Routine.{Routine}
 use types.Logic.{Logic}
 use contract.Monad.{Fun}
-use Rattle.laws.specs.Notation.{if◌then◌else◌}
 use Rattle.laws.specs.Bytes.{sent_bit}
 use Rattle.time.specs.declared.Time.{Time}
 use Rattle.deadlines.specs.declared.Deadline.{Deadline}
 use Rattle.calls.specs.declared.types.Timed.TheVariants as Timed
 use Rattle.calls.specs.declared.types.Call.{Call}
-use Rattle.calls.specs.declared.types.Call.TheVariants as Call
 use Rattle.calls.specs.Table.{refusal}
 use Rattle.sensor.specs.declared.types.Kept.{Kept}
 use Rattle.sensor.specs.Image.{cell_byte, new_kept}
 use Rattle.bma150.specs.declared.host.Bma150.{Bma150}
-use Rattle.calls.proofs.Theorems.Exactly.{TurnedDown}
+use Rattle.calls.specs.Theorems.Exactly.{TurnedDown}
 use Rattle.bma150.specs.Called.{Added, measurement_of, start_number}
 use Rattle.book.specs.Does.{does}
 use Rattle.book.specs.Lists.{Answer, Start, Fractions, met_zero, last_kept}

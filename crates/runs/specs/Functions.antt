@@ -16,20 +16,17 @@ use Rattle.i2c.specs.declared.types.Levels.{Levels}
 use Rattle.spi.specs.declared.types.Drive.{Drive}
 use Rattle.deadlines.specs.declared.Deadline.{Deadline}
 use Rattle.calls.specs.declared.types.Timed.{Timed}
-use Rattle.calls.specs.declared.types.Timed.TheVariants as Timed
 use Rattle.calls.specs.declared.types.Call.{Call}
-use Rattle.calls.specs.declared.types.Call.TheVariants as Call
 use Rattle.calls.specs.declared.types.Starting.TheVariants as Starting
 use Rattle.calls.specs.declared.types.Outcome.{Outcome}
 use Rattle.calls.specs.Table as T
 use Rattle.sensor.specs.declared.types.Viewed.{Viewed}
 use Rattle.waits.specs.declared.types.Report.{Report}
-use Rattle.waits.specs.declared.types.Report.TheVariants as Report
 use Rattle.bma150.specs.declared.types.Replied.{Replied}
 use Rattle.bma150.specs.declared.types.Reported.{Reported}
 use Rattle.bma150.specs.declared.types.Answered.{Answered}
 use Rattle.bma150.specs.declared.host.Bma150.{Bma150}
-use Rattle.bma150.specs.Called.{Added, of_view, timed_adds, served, adds, number, interrupt, output, data_output}
+use Rattle.bma150.specs.Called.{Added, of_view, timed_adds}
 use Rattle.bma150.specs.Lent.{DueLent, PinsLent}
 use Rattle.book.specs.Lists.{Answer, Start}
 use Rattle.bma150.proofs.host.Bma150.start.Reads as start_reads

@@ -1,6 +1,5 @@
 -- Next due, and samples up to a moment.
-use Rattle.std.specs.Prelude.{ℕ, Bool, false, not, ◌&&◌, eqb}
-use Rattle.laws.specs.Notation.{if◌then◌else◌}
+use Rattle.std.specs.Prelude.{ℕ, Bool, false, not, ◌&&◌, eqb, if◌then◌else◌}
 use Rattle.time.specs.declared.Time.{Time}
 use Rattle.time.specs.Time.{next_unit}
 use Rattle.time.specs.Clock as Clock
@@ -12,7 +11,6 @@ use Rattle.control.specs.Lengths.{needs}
 use Rattle.sampling.specs.declared.types.Acquisition.{Acquisition}
 use Rattle.sampling.specs.Phase as Phase
 use Rattle.sensor.specs.declared.types.Operation.{Operation}
-use Rattle.sensor.specs.declared.types.Operation.TheVariants as Operation
 use Rattle.sensor.specs.declared.types.Sensor.{Sensor}
 use Rattle.sensor.specs.Record.{with_registers, with_sampling, with_interrupts, is_off, automatic}
 use Rattle.sensor.specs.Mode.{automatic_control}

@@ -1,6 +1,6 @@
 -- Sample phases: temperature, x, y, z, in turn at the clock's edges.
-use Rattle.std.specs.Prelude.{ℕ, ◌+◌, ◌-◌, ◌%◌, min, Bool, true, not, ◌&&◌, ◌||◌, List, leb, eqb, set, ℤ, pos}
-use Rattle.laws.specs.Notation.{if◌then◌else◌, Registers}
+use Rattle.std.specs.Prelude.{ℕ, ◌+◌, ◌-◌, ◌%◌, min, Bool, true, not, ◌&&◌, ◌||◌, List, leb, eqb, set, ℤ, pos, if◌then◌else◌}
+use Rattle.laws.specs.Notation.{Registers}
 use Rattle.laws.specs.Iterate.{iterate}
 use Rattle.time.specs.declared.Clock.{Clock}
 use Rattle.time.specs.Clock as C

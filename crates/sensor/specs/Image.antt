@@ -1,7 +1,7 @@
 -- The stored image, the working image, and a sensor at its start.
-use Rattle.std.specs.Prelude.{ℕ, ◌-◌, true, false, List, [], ◌∷◌, get_or, set, replicate, pos}
+use Rattle.std.specs.Prelude.{ℕ, ◌-◌, true, false, List, [], ◌∷◌, get_or, set, replicate, pos, if◌then◌else◌}
 use Rattle.std.proofs.Math.Seq.{paste}
-use Rattle.laws.specs.Notation.{if◌then◌else◌, Byte, Address, Image, Registers}
+use Rattle.laws.specs.Notation.{Byte, Address, Image, Registers}
 use Rattle.time.specs.declared.Time.{Time}
 use Rattle.time.specs.Time.{plus, from_millis}
 use Rattle.time.specs.Clock as Clock
@@ -24,7 +24,6 @@ use Rattle.sampling.specs.declared.types.Test.TheVariants as Test
 use Rattle.sampling.specs.declared.types.Sampling.{Sampling}
 use Rattle.sensor.specs.declared.types.Kept.{Kept}
 use Rattle.sensor.specs.declared.types.Operation.{Operation}
-use Rattle.sensor.specs.declared.types.Operation.TheVariants as Operation
 use Rattle.sensor.specs.declared.types.Sensor.{Sensor}
 use Rattle.sensor.specs.Record.{with_registers, with_reads, with_sampling, with_interrupts, with_deadlines, with_filter}
 

@@ -10,14 +10,12 @@ use Rattle.reads.specs.declared.Reads.{Reads}
 use Rattle.deadlines.specs.declared.Deadlines.{Deadlines}
 use Rattle.deadlines.specs.Deadlines.{is_set}
 use Rattle.sampling.specs.declared.types.Test.{Test}
-use Rattle.sampling.specs.declared.types.Test.TheVariants as Test
 use Rattle.sampling.specs.declared.types.Input.{Input}
 use Rattle.sampling.specs.declared.types.Sampling.{Sampling}
 use Rattle.sampling.specs.Phase as Phase
 use Rattle.registers.specs.declared.access.Gate.{Gate}
 use Rattle.registers.specs.Map.{at, control, operation, SPI4}
 use Rattle.sensor.specs.declared.types.Operation.{Operation}
-use Rattle.sensor.specs.declared.types.Operation.TheVariants as Operation
 use Rattle.sensor.specs.declared.types.Writing.{Writing}
 use Rattle.sensor.specs.declared.types.Supply.{Supply}
 use Rattle.sensor.specs.declared.types.Kept.{Kept}

@@ -1,18 +1,15 @@
 -- Register views and reads (`peek`, `prepare_read`, `acknowledge_read`).
-use Rattle.std.specs.Prelude.{ℕ, ◌+◌, Bool, false, not, ◌&&◌, eqb, get_or, set}
+use Rattle.std.specs.Prelude.{ℕ, ◌+◌, Bool, false, not, ◌&&◌, eqb, get_or, set, if◌then◌else◌}
 use Rattle.std.specs.Int.Bits.{bit_or}
-use Rattle.laws.specs.Notation.{if◌then◌else◌, Byte, Address}
+use Rattle.laws.specs.Notation.{Byte, Address}
 use Rattle.interrupts.specs.Pin as Pin
 use Rattle.spi.specs.declared.types.Sent.{Sent}
-use Rattle.spi.specs.declared.types.Sent.TheVariants as Sent
 use Rattle.reads.specs.declared.Prepared.{Prepared}
 use Rattle.reads.specs.Reads as R
 use Rattle.registers.specs.Map.{at, status, operation, acc_lsb, shadow_dis}
 use Rattle.registers.specs.Access.{withheld}
 use Rattle.sensor.specs.declared.types.View.{View}
-use Rattle.sensor.specs.declared.types.View.TheVariants as View
 use Rattle.sensor.specs.declared.types.Mark.{Mark}
-use Rattle.sensor.specs.declared.types.Mark.TheVariants as Mark
 use Rattle.sensor.specs.declared.types.Viewed.{Viewed}
 use Rattle.sensor.specs.declared.types.Fetched.{Fetched}
 use Rattle.sensor.specs.declared.types.Sensor.{Sensor}

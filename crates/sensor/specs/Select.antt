@@ -1,6 +1,5 @@
 -- Select (`set_selected`).
-use Rattle.std.specs.Prelude.{Bool, not, ◌&&◌}
-use Rattle.laws.specs.Notation.{if◌then◌else◌}
+use Rattle.std.specs.Prelude.{Bool, not, ◌&&◌, if◌then◌else◌}
 use Rattle.i2c.specs.Engine as E
 use Rattle.spi.specs.Frame as F
 use Rattle.reads.specs.Reads as R

@@ -1,17 +1,13 @@
 -- An I2C report (`i2c_pins_at`).
-use Rattle.std.specs.Prelude.{ℕ, Bool, true, not, ◌&&◌}
-use Rattle.laws.specs.Notation.{if◌then◌else◌}
+use Rattle.std.specs.Prelude.{ℕ, Bool, true, not, ◌&&◌, if◌then◌else◌}
 use Rattle.time.specs.declared.Time.{Time}
 use Rattle.i2c.specs.declared.types.Levels.{Levels}
 use Rattle.i2c.specs.declared.types.Edge.{Edge}
 use Rattle.i2c.specs.declared.types.Action.{Action}
-use Rattle.i2c.specs.declared.types.Action.TheVariants as Action
 use Rattle.i2c.specs.declared.types.Step.{Step}
 use Rattle.i2c.specs.Bus.{edge}
 use Rattle.i2c.specs.Engine as E
 use Rattle.spi.specs.declared.types.Sent.{Sent}
-use Rattle.spi.specs.declared.types.Sent.TheVariants as Sent
-use Rattle.spi.specs.declared.types.Write.{Write}
 use Rattle.spi.specs.Frame as F
 use Rattle.reads.specs.Reads as R
 use Rattle.sensor.specs.declared.types.Fetched.{Fetched}

@@ -1,8 +1,6 @@
 -- What the four-wire output and the data pin show.
-use Rattle.std.specs.Prelude.{Bool, not, ◌&&◌}
-use Rattle.laws.specs.Notation.{if◌then◌else◌}
+use Rattle.std.specs.Prelude.{Bool, not, ◌&&◌, if◌then◌else◌}
 use Rattle.spi.specs.declared.types.Drive.{Drive}
-use Rattle.spi.specs.declared.types.Drive.TheVariants as Drive
 use Rattle.sensor.specs.declared.types.Sensor.{Sensor}
 use Rattle.sensor.specs.Record.{is_off, serial_not_ready, is_quiet, four_wire}
 

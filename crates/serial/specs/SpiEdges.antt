@@ -1,16 +1,10 @@
 -- SPI edges (`rising_at`, `falling_at`).
-use Rattle.std.specs.Prelude.{Bool, true, not, ◌&&◌}
-use Rattle.laws.specs.Notation.{if◌then◌else◌}
+use Rattle.std.specs.Prelude.{Bool, true, not, ◌&&◌, if◌then◌else◌}
 use Rattle.time.specs.declared.Time.{Time}
-use Rattle.i2c.specs.Bus.{edge}
 use Rattle.spi.specs.declared.types.Clocked.{Clocked}
-use Rattle.spi.specs.declared.types.Clocked.TheVariants as Clocked
 use Rattle.spi.specs.declared.types.FirstBit.{FirstBit}
-use Rattle.spi.specs.declared.types.FirstBit.TheVariants as FirstBit
 use Rattle.spi.specs.declared.types.Write.{Write}
-use Rattle.spi.specs.declared.types.Write.TheVariants as Write
 use Rattle.spi.specs.declared.types.Shift.{Shift}
-use Rattle.spi.specs.declared.types.Shift.TheVariants as Shift
 use Rattle.spi.specs.declared.types.Taken.{Taken}
 use Rattle.spi.specs.Frame as F
 use Rattle.sensor.specs.declared.types.Fetched.{Fetched}

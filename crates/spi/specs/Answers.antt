@@ -1,6 +1,5 @@
 -- What is seen of the sensor in each part of a frame, event by event.
-use Rattle.std.specs.Prelude.{ℕ, ◌+◌, ◌%◌, Bool, true, false, List, [], ◌∷◌, ◌++◌, drop, replicate}
-use Rattle.laws.specs.Notation.{if◌then◌else◌}
+use Rattle.std.specs.Prelude.{ℕ, ◌+◌, ◌%◌, Bool, true, false, List, [], ◌∷◌, ◌++◌, drop, replicate, if◌then◌else◌}
 use Rattle.laws.specs.Bytes.{bit}
 use Rattle.spi.specs.declared.types.Serial.TheVariants as S
 use Rattle.spi.specs.declared.types.Drive.{Drive}

@@ -1,6 +1,5 @@
 -- What a selected sensor does at each edge of the clock, with its wire mode and what its registers show at that edge.
-use Rattle.std.specs.Prelude.{ℕ, Bool, true, List, [], ◌∷◌, ◌++◌, get_or, drop}
-use Rattle.laws.specs.Notation.{if◌then◌else◌}
+use Rattle.std.specs.Prelude.{ℕ, Bool, true, List, [], ◌∷◌, ◌++◌, get_or, drop, if◌then◌else◌}
 use Rattle.spi.specs.declared.types.Drive.{Drive}
 use Rattle.spi.specs.declared.types.Sent.{Sent}
 use Rattle.spi.specs.declared.types.Sent.TheVariants as T

@@ -1,6 +1,6 @@
 -- A due moment is served (`at_deadline`), step by step in the Rust's order.
-use Rattle.std.specs.Prelude.{◌%◌, Bool, true, ◌&&◌, eqb, set}
-use Rattle.laws.specs.Notation.{if◌then◌else◌, Byte, Address}
+use Rattle.std.specs.Prelude.{◌%◌, Bool, true, ◌&&◌, eqb, set, if◌then◌else◌}
+use Rattle.laws.specs.Notation.{Byte, Address}
 use Rattle.time.specs.declared.Time.{Time}
 use Rattle.time.specs.Time.{same, from_millis}
 use Rattle.time.specs.Clock as Clock
@@ -10,9 +10,7 @@ use Rattle.deadlines.specs.Deadlines.{is_at, unless_at, with_serial_ready, with_
 use Rattle.registers.specs.Map.{at, control, without_update_image}
 use Rattle.sampling.specs.Phase.{with_clock}
 use Rattle.sensor.specs.declared.types.Operation.{Operation}
-use Rattle.sensor.specs.declared.types.Operation.TheVariants as Operation
 use Rattle.waits.specs.declared.types.Report.{Report}
-use Rattle.waits.specs.declared.types.Report.TheVariants as Report
 use Rattle.waits.specs.declared.types.Served.{Served}
 use Rattle.sensor.specs.declared.types.Sensor.{Sensor}
 use Rattle.sensor.specs.Record.{with_registers, with_sampling, with_deadlines}

@@ -1,6 +1,6 @@
 -- Supply, acceleration and temperature.
-use Rattle.std.specs.Prelude.{ℕ, Bool, true, false, ltb, eqb, ℤ}
-use Rattle.laws.specs.Notation.{if◌then◌else◌, Byte, Address}
+use Rattle.std.specs.Prelude.{ℕ, Bool, true, false, ltb, eqb, ℤ, if◌then◌else◌}
+use Rattle.laws.specs.Notation.{Byte, Address}
 use Rattle.time.specs.declared.Time.{Time}
 use Rattle.time.specs.declared.Duration.{Duration}
 use Rattle.time.specs.Time.{since, from_millis}
@@ -14,10 +14,7 @@ use Rattle.deadlines.specs.Deadlines.{shifted}
 use Rattle.sampling.specs.declared.types.Sampling.{Sampling}
 use Rattle.sampling.specs.Stage as Stage
 use Rattle.sensor.specs.declared.types.Operation.{Operation}
-use Rattle.sensor.specs.declared.types.Operation.TheVariants as Operation
-use Rattle.sensor.specs.declared.types.Supply.{Supply}
 use Rattle.waits.specs.declared.types.Report.{Report}
-use Rattle.waits.specs.declared.types.Report.TheVariants as Report
 use Rattle.waits.specs.declared.types.Served.{Served}
 use Rattle.sensor.specs.declared.types.Sensor.{Sensor}
 use Rattle.sensor.specs.Record.{with_nonvolatile, with_i2c, with_sampling, with_kept, with_input, with_deadlines, with_writing, with_supply, is_off}

@@ -1,6 +1,6 @@
 -- Register writes (`write_register`).
-use Rattle.std.specs.Prelude.{Bool, true, false, set}
-use Rattle.laws.specs.Notation.{if◌then◌else◌, Byte, Address}
+use Rattle.std.specs.Prelude.{Bool, true, false, set, if◌then◌else◌}
+use Rattle.laws.specs.Notation.{Byte, Address}
 use Rattle.time.specs.declared.Time.{Time}
 use Rattle.time.specs.Time.{plus, from_millis, from_micros}
 use Rattle.nv.specs.Cycle as Cycle
@@ -9,11 +9,8 @@ use Rattle.interrupts.specs.State as I
 use Rattle.deadlines.specs.declared.Deadline.TheVariants.{At, Never}
 use Rattle.deadlines.specs.Deadlines.{with_irq_hold, with_image}
 use Rattle.control.specs.declared.types.WriteKind.{WriteKind}
-use Rattle.control.specs.declared.types.WriteKind.TheVariants as WriteKind
 use Rattle.control.specs.declared.types.SelfTest.{SelfTest}
-use Rattle.control.specs.declared.types.SelfTest.TheVariants as SelfTest
 use Rattle.control.specs.declared.types.Sleep.{Sleep}
-use Rattle.control.specs.declared.types.Sleep.TheVariants as Sleep
 use Rattle.control.specs.Kinds as Kinds
 use Rattle.registers.specs.Map.{at, status, control, measurement, operation, bandwidth, without_st_result}
 use Rattle.sampling.specs.declared.types.Test.TheVariants as Test

@@ -1,10 +1,9 @@
 -- How large the series, its squares and the factors become: far below 64 bits.
-use Rattle.std.specs.Prelude.{◌≡◌, ℕ, zero, suc, ◌+◌, ◌-◌, ◌*◌, ◌/◌, ◌^◌, ◌<◌, ◌≤◌, max, Bool, true, false, ◌&&◌, T, ℤ, pos, ◌+ℤ◌, ◌-ℤ◌, ◌*ℤ◌, neg_ℤ, nat_le, nat_lt, unsigned_abs, refl}
+use Rattle.std.specs.Prelude.{◌≡◌, ℕ, zero, suc, ◌+◌, ◌-◌, ◌*◌, ◌/◌, ◌^◌, ◌<◌, ◌≤◌, max, Bool, true, false, ◌&&◌, T, ℤ, pos, ◌+ℤ◌, ◌-ℤ◌, ◌*ℤ◌, neg_ℤ, nat_le, nat_lt, unsigned_abs, refl, if◌then◌else◌}
 use Rattle.std.proofs.Common.{sym, ap, ◌∙◌, zero-le, suc-le-suc, le_trans, lt_of_le_of_lt, mul-le-mul_right, mul-pos, zero-lt-suc, mul_assoc, suc-add, le_of_lt, lt_trans, div-lt_iff_lt-mul, div-one, arith, lit<, lit≤, ltb→lt, ltb-true, ltb-false, leb-true, leb-false, lt-ltb, le-ltb, le-leb}
 use Rattle.std.proofs.Math.Nat.{div-le_of_le-mul, pow-succ', div-div-eq-div-mul}
 use Rattle.std.proofs.lemmas.Bool.{lt-leb}
 use Rattle.laws.specs.Iterate.{iterate}
-use Rattle.laws.specs.Notation.{if◌then◌else◌}
 use Rattle.analog.specs.declared.types.Factors.{Factors}
 use Rattle.analog.specs.declared.types.Series.{Series}
 use Rattle.analog.specs.Round.{low_64}

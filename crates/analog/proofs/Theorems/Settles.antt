@@ -1,11 +1,10 @@
 -- With a constant input, 40 periods end exactly on it, from any state, and the axis stays there.
-use Rattle.std.specs.Prelude.{◌≡◌, ℕ, zero, suc, ◌+◌, ◌-◌, ◌*◌, ◌/◌, ◌^◌, ◌<◌, ◌≤◌, Bool, true, false, ◌||◌, ◌⊎◌, List, [], ◌∷◌, length, ℤ, pos, negsuc, ◌+ℤ◌, ◌-ℤ◌, ◌*ℤ◌, FitsSigned, ◌==◌, unsigned_abs, refl}
+use Rattle.std.specs.Prelude.{◌≡◌, ℕ, zero, suc, ◌+◌, ◌-◌, ◌*◌, ◌/◌, ◌^◌, ◌<◌, ◌≤◌, Bool, true, false, ◌||◌, ◌⊎◌, List, [], ◌∷◌, length, ℤ, pos, negsuc, ◌+ℤ◌, ◌-ℤ◌, ◌*ℤ◌, FitsSigned, ◌==◌, unsigned_abs, refl, if◌then◌else◌}
 use Rattle.std.proofs.Common.{sym, ap, ◌∙◌, inl, inr, zero-le, le_refl, le_trans, lt_of_le_of_lt, add-le-add, mul-le-mul_left, mul-le-mul_right, add-mul, zero-add, suc-add, add-sub_of_le, lt_trans, le_of_lt, le_of_eq, arith, lit<, lit≤, ne_eqb}
 use Rattle.std.proofs.Math.IntN.{+ℤ_comm, +ℤ-neg_ℤ_cancel, +ℤ_invr, -ℤ-+ℤ_cancel, +ℤ_idl}
 use Rattle.std.specs.Int.Signed.{nat_abs-le}
 use Rattle.std.specs.Int.{w32, w64}
 use Rattle.std.proofs.Math.Facts.{sfits_lit}
-use Rattle.laws.specs.Notation.{if◌then◌else◌}
 use Rattle.time.specs.declared.Time.{Time}
 use Rattle.time.specs.Time.{ticks, lasts, time, since}
 use Rattle.time.specs.Clock.{edge_ticks, edge}

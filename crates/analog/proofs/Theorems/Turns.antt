@@ -1,6 +1,5 @@
 -- A setting of an axis, both ways: it moves the stage exactly if the input changes, and then with the old one.
-use Rattle.std.specs.Prelude.{◌≡◌, Bool, true, false, ℤ, pos, ◌≢◌, refl}
-use Rattle.laws.specs.Notation.{if◌then◌else◌}
+use Rattle.std.specs.Prelude.{◌≡◌, Bool, true, false, ℤ, pos, ◌≢◌, refl, if◌then◌else◌}
 use Rattle.time.specs.declared.Time.{Time}
 use Rattle.analog.specs.declared.types.Axis.{Axis}
 use Rattle.analog.specs.Axis.{same, advanced, turned}

@@ -1,11 +1,8 @@
-use borrow.Author.Rules.{rules}
 use native.Mathlib.Omega.{arith}
 use mathlib.Core.Path.{◌≡◌, refl, sym, ◌∙◌}
 use mathlib.Core.Bool.{true, false}
-use Prim.Native.Nat.{◌-◌, ◌≤◌}
-use lib.ListN.{length, drop, length-drop}
-use Rattle.machine.proofs.Theorems.Blocks.{Upto, begun, pace_short, pace_full, pace_stopped, stopped_turn}
-use Rattle.bench.specs.Run.{bench}
+use lib.ListN.{drop, length-drop}
+use Rattle.machine.proofs.Theorems.Blocks.{begun, pace_short, pace_full, pace_stopped, stopped_turn}
 use Rattle.bench.specs.Block.{is_whole}
 use Rattle.bench.specs.Theorems.Loop.{short, some, advance, went, finished}
 use Rattle.bench.proofs.run.Goals as goal

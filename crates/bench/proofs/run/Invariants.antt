@@ -1,13 +1,8 @@
-use borrow.Author.Rules.{rules}
-use native.Mathlib.Omega.{arith}
-use mathlib.Core.Path.{◌≡◌, refl, sym, ◌∙◌}
-use mathlib.Core.Bool.{true, false}
+use mathlib.Core.Bool.{false}
 use Prim.Native.Nat.{◌-◌, ◌≤◌}
-use lib.ListN.{length, drop, length-drop}
-use Rattle.machine.proofs.Theorems.Blocks.{Upto, begun, pace_short, pace_full, pace_stopped, stopped_turn}
+use lib.ListN.{length}
+use Rattle.machine.proofs.Theorems.Blocks.{Upto}
 use Rattle.bench.specs.Run.{bench}
-use Rattle.bench.specs.Block.{is_whole}
-use Rattle.bench.specs.Theorems.Loop.{short, some, advance, went, finished}
 use Rattle.bench.proofs.run.Given as goal
 
 abbrev pub invariant-loop-n : goal.invariant-loop-n

@@ -4,7 +4,6 @@ use Rattle.std.proofs.Common.{ap, ◌∙◌, arith}
 use Rattle.std.proofs.Math.ListN.{get_or-append}
 use Rattle.machine.specs.Machine.{Lawful}
 use Rattle.commands.specs.declared.Command.{Command}
-use Rattle.commands.specs.declared.Command.TheVariants as Command
 use Rattle.commands.specs.Decode.{decoded, image}
 use Rattle.commands.proofs.Theorems.More.{wants_some, decoded_whole, decoded_good, image_there, image_more, size_pos, size_fits}
 use Rattle.bma150.specs.declared.host.Bma150.{Bma150}

@@ -4,10 +4,8 @@ use Rattle.std.proofs.Common.{arith}
 use borrow.Author.Tests.{ne_eqb}
 use Rattle.time.specs.declared.Time.{Time}
 use Rattle.calls.specs.declared.types.Starting.{Starting}
-use Rattle.calls.specs.declared.types.Starting.TheVariants as Starting
-use Rattle.calls.proofs.Theorems.Exactly.{Reserved}
+use Rattle.calls.specs.Theorems.Exactly.{Reserved}
 use Rattle.commands.specs.declared.Command.{Command}
-use Rattle.commands.specs.declared.Command.TheVariants as Command
 use Rattle.commands.specs.Decode.{decoded, image, size, is_bad}
 use Rattle.bma150.specs.declared.host.Bma150.{Bma150}
 use Rattle.bma150.specs.Called.{measurement_of, start_number, after_start}

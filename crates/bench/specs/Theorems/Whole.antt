@@ -3,7 +3,6 @@ use Rattle.std.specs.Prelude.{◌≡◌, Bool, true, false, List, [], ◌∷◌,
 use Rattle.std.proofs.Common.{sym, ap, ◌∙◌, arith}
 use Rattle.machine.proofs.Theorems.Whole.{after_stop}
 use Rattle.commands.specs.declared.Command.{Command}
-use Rattle.commands.specs.declared.Command.TheVariants as Command
 use Rattle.commands.specs.Decode.{decoded, image, is_bad}
 use Rattle.commands.proofs.Theorems.More.{unknown}
 use Rattle.bma150.specs.declared.host.Bma150.{Bma150}

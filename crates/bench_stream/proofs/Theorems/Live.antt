@@ -1,16 +1,14 @@
 -- No command is left waiting, no short read is the input's end, and no turn is idle.
-use Rattle.std.specs.Prelude.{◌≡◌, refl, Bool, ◌⊎◌, List, [], ℕ, ◌+◌, ◌-◌, ◌≤◌, length, drop}
+use Rattle.std.specs.Prelude.{◌≡◌, refl, Bool, ◌⊎◌, List, [], ℕ, ◌+◌, ◌≤◌, length, drop}
 use Rattle.std.proofs.Common.{sym, ◌∙◌, inl, inr, append-nil, arith, eqb-true}
 use Rattle.std.proofs.Math.Bool.{true, false}
 use Rattle.std.proofs.Math.Logic.{⊎_elim}
-use Rattle.machine.specs.Pieces.{brought}
-use Rattle.machine.proofs.Theorems.Put.{text}
 use Rattle.machine.proofs.Theorems.Turns.{Goes}
 use Rattle.machine.specs.Block as B
 use Rattle.machine.proofs.Theorems.Blocks.{block_takes}
 use Rattle.bma150.specs.declared.host.Bma150.{Bma150}
 use Rattle.bench.specs.declared.Ran.{Ran}
-use Rattle.bench.specs.Run.{bench, whole}
+use Rattle.bench.specs.Run.{bench}
 use Rattle.bench.specs.Block.{is_whole, block}
 use Rattle.bench.specs.Theorems.Lawful.{lawful}
 use Rattle.bench.specs.Theorems.Loop as L

@@ -5,11 +5,11 @@ use Rattle.std.proofs.lemmas.List.Edits.{sets}
 use Rattle.std.proofs.Math.Seq.{length-sets}
 use Rattle.machine.specs.Put.{Put}
 use Rattle.machine.specs.Machine.{Running}
-use Rattle.machine.specs.Pieces.{Between, between, brought, AtEnd}
+use Rattle.machine.specs.Pieces.{Between, between, AtEnd}
 use Rattle.machine.proofs.Theorems.Put.{text}
 use Rattle.bma150.specs.declared.host.Bma150.{Bma150}
 use Rattle.bench.specs.declared.Ran.{Ran}
-use Rattle.bench.specs.Block.{block, answer}
+use Rattle.bench.specs.Block.{answer}
 use Rattle.bench_stream.specs.declared.Turn.{Turn}
 use Rattle.bench_stream.specs.Loop.{first, kept, kept_of, goes_on, cut_off, served_by}
 

@@ -1,10 +1,7 @@
-use borrow.Author.Rules.{rules}
 use native.Mathlib.Omega.{arith}
-use mathlib.Core.Path.{◌≡◌}
-use Prim.Native.Nat.{◌+◌, ◌-◌, ◌≤◌, ◌<◌}
-use lib.ListN.{length, take, drop}
-use Rattle.machine.specs.Put.{Put}
-use Rattle.machine.proofs.Theorems.Put.{none, says, moved, stored, kept_length}
+use Prim.Native.Nat.{◌+◌, ◌<◌}
+use lib.ListN.{length}
+use Rattle.machine.proofs.Theorems.Put.{moved, stored}
 use Rattle.bench_stream.proofs.keep.Goals as goal
 
 pub loop-p-preserved : goal.loop-p-preserved

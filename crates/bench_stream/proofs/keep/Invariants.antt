@@ -1,10 +1,6 @@
-use borrow.Author.Rules.{rules}
-use native.Mathlib.Omega.{arith}
-use mathlib.Core.Path.{◌≡◌}
-use Prim.Native.Nat.{◌+◌, ◌-◌, ◌≤◌, ◌<◌}
-use lib.ListN.{length, take, drop}
+use Prim.Native.Nat.{◌-◌, ◌≤◌}
+use lib.ListN.{take, drop}
 use Rattle.machine.specs.Put.{Put}
-use Rattle.machine.proofs.Theorems.Put.{none, says, moved, stored, kept_length}
 use Rattle.bench_stream.proofs.keep.Given as goal
 
 abbrev pub invariant-loop-p : goal.invariant-loop-p

@@ -1,8 +1,8 @@
 use borrow.Author.Rules.{rules}
 use mathlib.Core.Path.{◌≡◌, sym, ◌∙◌}
-use Prim.Native.Nat.{◌+◌, ◌-◌, ◌≤◌}
+use Prim.Native.Nat.{◌+◌, ◌-◌}
 use Rattle.bench_stream.proofs.Theorems.Turn.{first_bounds, not_stopped}
-use Rattle.bench_stream.proofs.Theorems.Loop.{Upto, upto_first, upto_next, ended_now, used_up}
+use Rattle.bench_stream.proofs.Theorems.Loop.{upto_first, upto_next}
 use Rattle.bench_stream.proofs.turns.Goals as goal
 
 pub loop-n-init : goal.loop-n-init

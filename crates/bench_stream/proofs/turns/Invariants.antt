@@ -1,8 +1,5 @@
-use borrow.Author.Rules.{rules}
-use mathlib.Core.Path.{◌≡◌, sym, ◌∙◌}
-use Prim.Native.Nat.{◌+◌, ◌-◌, ◌≤◌}
-use Rattle.bench_stream.proofs.Theorems.Turn.{first_bounds, not_stopped}
-use Rattle.bench_stream.proofs.Theorems.Loop.{Upto, upto_first, upto_next, ended_now, used_up}
+use Prim.Native.Nat.{◌≤◌}
+use Rattle.bench_stream.proofs.Theorems.Loop.{Upto}
 use Rattle.bench_stream.proofs.turns.Given as goal
 
 abbrev pub invariant-loop-n : goal.invariant-loop-n

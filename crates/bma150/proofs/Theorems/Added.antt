@@ -5,14 +5,12 @@ use Rattle.std.proofs.Common.{◌∙◌}
 use Rattle.std.proofs.Math.Bool.{true, false, cond}
 use Rattle.time.specs.declared.Time.{Time}
 use Rattle.calls.specs.declared.types.Timed.{Timed}
-use Rattle.calls.specs.declared.types.Timed.TheVariants as Timed
 use Rattle.calls.specs.declared.types.Call.TheVariants as Call
 use Rattle.calls.specs.Table.{unless_refused}
 use Rattle.calls.proofs.Theorems.Left.{accepted_is, view_accepted}
 use Rattle.sensor.specs.RegisterReads.{viewed}
 use Rattle.samples.specs.Samples.{interaction_deadline}
 use Rattle.waits.specs.declared.types.Report.{Report}
-use Rattle.waits.specs.declared.types.Report.TheVariants as Report
 use Rattle.bma150.specs.declared.host.Bma150.{Bma150}
 use Rattle.bma150.specs.Values.{report_values}
 use Rattle.bma150.specs.Called.{Added, reported, of_view, put_in, timed_adds, served, leaves, adds, number, called}

@@ -1,5 +1,5 @@
 -- Which views have a mark, and which mark.
-use Rattle.std.specs.Prelude.{ℕ, ◌<◌, ◌≤◌, ◌≡◌, Bool, cond, not, ◌&&◌, ◌⊎◌, leb, get_or}
+use Rattle.std.specs.Prelude.{ℕ, ◌<◌, ◌≤◌, ◌≡◌, Bool, cond, ◌&&◌, ◌⊎◌, leb, get_or}
 use Rattle.std.proofs.Common.{arith, sym, ap, ◌∙◌, le-leb, leb-true, leb-false}
 use Rattle.std.proofs.Math.Path.{refl}
 use Rattle.std.proofs.Math.Bool.{true, false}
@@ -8,9 +8,7 @@ use Rattle.std.proofs.Math.Option.{Option, none, some}
 use Rattle.reads.specs.Reads.{is_acceleration, axis_of}
 use Rattle.calls.specs.declared.types.Call.TheVariants as Call
 use Rattle.sensor.specs.declared.types.View.{View}
-use Rattle.sensor.specs.declared.types.View.TheVariants as View
 use Rattle.sensor.specs.declared.types.Mark.{Mark}
-use Rattle.sensor.specs.declared.types.Mark.TheVariants as Mark
 use Rattle.sensor.specs.declared.types.Sensor.{Sensor}
 use Rattle.sensor.specs.RegisterReads.{peek, mark, mark_of}
 use Rattle.bma150.specs.declared.host.Bma150.{Bma150}

@@ -5,10 +5,9 @@ use Rattle.std.proofs.Math.ListN.{get_or-append}
 use Rattle.time.specs.declared.Time.{Time}
 use Rattle.time.specs.Time.{time}
 use Rattle.calls.specs.declared.types.Starting.{Starting}
-use Rattle.calls.specs.declared.types.Starting.TheVariants as Starting
 use Rattle.calls.specs.declared.types.Bytes.TheVariants as Bytes
 use Rattle.calls.specs.Table.{wrong_length, late, reserved, turned_down, first_found, start_refusal}
-use Rattle.calls.proofs.Theorems.Exactly.{Reserved, TurnedDown}
+use Rattle.calls.specs.Theorems.Exactly.{Reserved, TurnedDown}
 use Rattle.calls.proofs.Theorems.Left.{accepted_is, start_clear}
 use Rattle.registers.specs.Map.{at, measurement}
 use Rattle.sensor.specs.Image.{from_nonvolatile, stock}

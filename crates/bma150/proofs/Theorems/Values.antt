@@ -2,11 +2,8 @@
 use Rattle.std.specs.Prelude.{ℕ, ◌≡◌, refl, List, get_or}
 use Rattle.std.proofs.Common.{ap, arith}
 use Rattle.spi.specs.declared.types.Drive.{Drive}
-use Rattle.spi.specs.declared.types.Drive.TheVariants as Drive
 use Rattle.waits.specs.declared.types.Report.{Report}
-use Rattle.waits.specs.declared.types.Report.TheVariants as Report
 use Rattle.sensor.specs.declared.types.View.{View}
-use Rattle.sensor.specs.declared.types.View.TheVariants as View
 use Rattle.bma150.specs.Values.{drive_letter, report_values, view_value}
 
 pub drive_letter_injective : (a b : Drive) → drive_letter a ≡ drive_letter b → a ≡ b

@@ -15,7 +15,6 @@ use Rattle.nv.specs.Cell.{write_length}
 use Rattle.registers.specs.declared.access.Gate.{Gate}
 use Rattle.registers.specs.Access.{stored, ignores, begins}
 use Rattle.spi.specs.declared.types.Write.{Write}
-use Rattle.spi.specs.declared.types.Write.TheVariants as Write
 use Rattle.calls.specs.declared.types.Call.{Call}
 use Rattle.calls.proofs.Theorems.Left.{start_length}
 use Rattle.sensor.specs.declared.types.Sensor.{Sensor}

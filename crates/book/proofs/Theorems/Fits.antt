@@ -4,7 +4,6 @@ use Rattle.std.proofs.Math.Option.{some}
 use Rattle.time.specs.declared.Time.{Time}
 use Rattle.calls.specs.declared.types.Timed.TheVariants as Timed
 use Rattle.calls.specs.declared.types.Call.{Call}
-use Rattle.calls.specs.declared.types.Call.TheVariants as Call
 use Rattle.book.specs.Does.{does, timed_does}
 use Rattle.book.specs.Lists.{Fits, Fractions}
 

@@ -4,7 +4,6 @@ use Rattle.std.proofs.Math.Path.{refl, sym, ap}
 use Rattle.std.proofs.Common.{◌∙◌}
 use Rattle.std.proofs.Math.Bool.{true, false}
 use mathlib.Core.List.{List, [], ◌∷◌, ◌++◌, append-nil}
-use Rattle.laws.specs.Notation.{if◌then◌else◌}
 use Rattle.time.specs.declared.Time.{Time}
 use Rattle.i2c.specs.declared.types.Edge.{Edge}
 use Rattle.i2c.specs.declared.types.Edge.TheVariants.{Still, Start, Stop, Rise, Fall}
@@ -17,11 +16,8 @@ use Rattle.i2c.specs.Transfers.{byte_frame, address_frame, broken, starts, Pair,
 use Rattle.i2c.specs.Target.{Target, target, deed, Seen}
 use Rattle.i2c.specs.Answers.{silence, silent, frees, broken_answer, register_answer, pairs_answer, write_answer, next_register, bytes_answer}
 use Rattle.spi.specs.declared.types.Write.{Write}
-use Rattle.spi.specs.declared.types.Write.TheVariants as Write
 use Rattle.calls.specs.declared.types.Timed.{Timed}
-use Rattle.calls.specs.declared.types.Timed.TheVariants as Timed
 use Rattle.calls.specs.declared.types.Call.{Call}
-use Rattle.calls.specs.declared.types.Call.TheVariants as Call
 use Rattle.sensor.specs.declared.types.Sensor.{Sensor}
 use Rattle.samples.specs.Samples.{sync_local_until}
 use Rattle.serial.specs.SpiEdges.{spi_listens}

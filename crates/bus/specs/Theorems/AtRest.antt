@@ -19,23 +19,17 @@ use Rattle.spi.specs.declared.types.Frame.{Frame}
 use Rattle.spi.specs.declared.types.Write.{Write}
 use Rattle.spi.specs.declared.types.Write.TheVariants as W
 use Rattle.spi.specs.declared.types.Clocked.{Clocked}
-use Rattle.spi.specs.declared.types.Clocked.TheVariants as Clocked
 use Rattle.spi.specs.declared.types.Shift.{Shift}
 use Rattle.spi.specs.declared.types.Shift.TheVariants as H
 use Rattle.spi.specs.Frame as F
 use Rattle.spi.specs.Lines.{output}
 use Rattle.deadlines.specs.declared.Deadline.TheVariants.{Never}
 use Rattle.control.specs.declared.types.WriteKind.{WriteKind}
-use Rattle.control.specs.declared.types.WriteKind.TheVariants as WriteKind
 use Rattle.calls.specs.declared.types.Timed.{Timed}
-use Rattle.calls.specs.declared.types.Timed.TheVariants as Timed
 use Rattle.calls.specs.declared.types.Call.{Call}
-use Rattle.calls.specs.declared.types.Call.TheVariants as Call
 use Rattle.calls.specs.Table.{unless_refused}
 use Rattle.sensor.specs.declared.types.Operation.{Operation}
-use Rattle.sensor.specs.declared.types.Operation.TheVariants as Operation
 use Rattle.sensor.specs.declared.types.View.{View}
-use Rattle.sensor.specs.declared.types.View.TheVariants as View
 use Rattle.sensor.specs.declared.types.Sensor.{Sensor}
 use Rattle.sensor.specs.Record.{with_frame, with_i2c, is_off, serial_not_ready, is_quiet, four_wire}
 use Rattle.sensor.specs.Mode.{criterion, soft_reset}

@@ -10,7 +10,6 @@ use Rattle.deadlines.specs.declared.Deadline.{Deadline}
 use Rattle.deadlines.specs.declared.Deadline.TheVariants.{Never}
 use Rattle.deadlines.specs.Deadlines.{is_set, is_at, unless_at}
 use Rattle.sensor.specs.declared.types.Operation.{Operation}
-use Rattle.sensor.specs.declared.types.Operation.TheVariants as Operation
 use Rattle.sensor.specs.declared.types.Sensor.{Sensor}
 use Rattle.sensor.specs.Record.{is_off, serial_not_ready, four_wire}
 use Rattle.sensor.specs.Mode.{criterion}

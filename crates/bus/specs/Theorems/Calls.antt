@@ -1,8 +1,7 @@
 -- Every accepted call of a sensor that hears the bus before and after, as the bus sees it.
-use Rattle.std.specs.Prelude.{ℕ, ◌≡◌, Bool, true, false, ltb, ℤ}
+use Rattle.std.specs.Prelude.{ℕ, ◌≡◌, Bool, true, false, ltb, ℤ, if◌then◌else◌}
 use Rattle.std.proofs.Math.Path.{refl, ap}
 use Rattle.std.proofs.Common.{sym, subst, ◌∙◌}
-use Rattle.laws.specs.Notation.{if◌then◌else◌}
 use Rattle.time.specs.declared.Time.{Time}
 use Rattle.i2c.specs.declared.types.Edge.{Edge}
 use Rattle.i2c.specs.declared.types.Edge.TheVariants.{Still}
@@ -10,13 +9,11 @@ use Rattle.i2c.specs.declared.types.Action.{Action}
 use Rattle.i2c.specs.declared.types.Action.TheVariants as A
 use Rattle.i2c.specs.Bus.{edge}
 use Rattle.i2c.specs.Engine as E
-use Rattle.i2c.specs.Target.{Target, act, deed, serve, seen_at, seen}
+use Rattle.i2c.specs.Target.{Target, act, deed, serve, seen_at}
 use Rattle.i2c.proofs.Theorems.Uses.{uses}
 use Rattle.i2c.proofs.Theorems.Frames.{still_changes_nothing}
 use Rattle.calls.specs.declared.types.Timed.{Timed}
-use Rattle.calls.specs.declared.types.Timed.TheVariants as Timed
 use Rattle.calls.specs.declared.types.Call.{Call}
-use Rattle.calls.specs.declared.types.Call.TheVariants as Call
 use Rattle.calls.specs.Table.{unless_refused}
 use Rattle.sensor.specs.declared.types.Sensor.{Sensor}
 use Rattle.sensor.specs.Record.{with_i2c, is_quiet}
@@ -24,7 +21,7 @@ use Rattle.samples.specs.Samples.{sync_local_until}
 use Rattle.serial.specs.I2cPins.{ones_for, acted, i2c_pins, pins_synced}
 use Rattle.bma150.specs.declared.host.Bma150.{Bma150}
 use Rattle.bma150.specs.Called.{effect, leaves}
-use Rattle.book.specs.Lists.{accepts, step, after, accepted}
+use Rattle.book.specs.Lists.{accepts, step, after}
 use Rattle.effects.specs.Theorems.Keeps as K
 use Rattle.bus.specs.I2c.{Heard, timed_event, event, target_of, sampled, fetch, resets, timed_ends, ends, shows, sees}
 use Rattle.bus.specs.Theorems.Parts.{absurd_bool, Same, and_then, itself, of, heard, same_target, not_quiet, holds}

@@ -1,5 +1,5 @@
 -- The transfers are not empty: lists of calls after a start with the stock image, computed. The levels of each report follow on from those of the one before.
-use Rattle.std.specs.Prelude.{ℕ, ◌+◌, ◌/◌, ◌^◌, ◌≡◌, refl, List, [], ◌∷◌, ◌++◌, pos, drop}
+use Rattle.std.specs.Prelude.{ℕ, ◌/◌, ◌^◌, ◌≡◌, refl, List, [], ◌∷◌, ◌++◌, pos, drop}
 use mathlib.Core.Bool.{Bool, true, false}
 use Rattle.laws.specs.Bytes.{sent_bit}
 use Rattle.time.specs.declared.Time.{Time}
@@ -8,11 +8,9 @@ use Rattle.i2c.specs.declared.types.Levels.{Levels}
 use Rattle.i2c.specs.Transfers.{Pair, Levels8, write_transfer, combined}
 use Rattle.i2c.specs.Target.{now_shown}
 use Rattle.spi.specs.declared.types.Write.{Write}
-use Rattle.spi.specs.declared.types.Write.TheVariants as Write
 use Rattle.sensor.specs.Image.{stock}
 use Rattle.calls.specs.declared.types.Timed.TheVariants as Timed
 use Rattle.calls.specs.declared.types.Call.{Call}
-use Rattle.calls.specs.declared.types.Call.TheVariants as Call
 use Rattle.calls.specs.declared.types.Starting.TheVariants as Starting
 use Rattle.bma150.specs.declared.host.Bma150.{Bma150}
 use Rattle.book.specs.Lists.{started, after, accepted}

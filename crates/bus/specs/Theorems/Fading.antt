@@ -11,11 +11,10 @@ use Rattle.spi.specs.declared.types.Drive.TheVariants as D
 use Rattle.spi.specs.declared.types.Sent.{Sent}
 use Rattle.spi.specs.declared.types.Frame.{Frame}
 use Rattle.spi.specs.declared.types.Taken.{Taken}
-use Rattle.spi.specs.declared.types.Write.{Write}
 use Rattle.spi.specs.declared.types.Write.TheVariants as W
 use Rattle.spi.specs.declared.types.Shift.{Shift}
 use Rattle.spi.specs.declared.types.Shift.TheVariants as H
-use Rattle.spi.specs.Frame.{released, addressed, completed, take_bit, moves, shifts, turned, moved}
+use Rattle.spi.specs.Frame.{addressed, completed, take_bit, shifts, turned, moved}
 use Rattle.spi.specs.Lines.{Event, Rise, Fall, Now, output, turnaround_shift, rise_shift, fall_shift, bit_served, serve}
 
 -- the frame with another driver

@@ -1,5 +1,5 @@
 -- What the bus sees of a sensor that hears it, and what leaves that as it is.
-use Rattle.std.specs.Prelude.{ℕ, ◌≡◌, refl, Bool, true, false, cond, not}
+use Rattle.std.specs.Prelude.{ℕ, ◌≡◌, refl, Bool, true, false, cond}
 use Rattle.std.proofs.Common.{arith, ap, ◌∙◌}
 use Rattle.i2c.specs.declared.types.State.{State}
 use Rattle.spi.specs.declared.types.Frame.{Frame}

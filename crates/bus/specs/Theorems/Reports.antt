@@ -1,8 +1,7 @@
 -- What an I2C report does to a sensor that hears the bus.
-use Rattle.std.specs.Prelude.{ℕ, ◌≡◌, Bool, true, false, cond, not, ◌&&◌}
+use Rattle.std.specs.Prelude.{ℕ, ◌≡◌, Bool, true, false, cond, not, ◌&&◌, if◌then◌else◌}
 use Rattle.std.proofs.Math.Path.{refl, ap}
 use Rattle.std.proofs.Common.{sym, ◌∙◌}
-use Rattle.laws.specs.Notation.{if◌then◌else◌}
 use Rattle.time.specs.declared.Time.{Time}
 use Rattle.i2c.specs.declared.types.Edge.{Edge}
 use Rattle.i2c.specs.declared.types.State.{State}
@@ -13,9 +12,7 @@ use Rattle.i2c.specs.Target.{target, act, deed}
 use Rattle.i2c.proofs.Theorems.Uses.{uses, uses_exactly}
 use Rattle.deadlines.specs.Deadlines.{is_set}
 use Rattle.control.specs.declared.types.WriteKind.{WriteKind}
-use Rattle.control.specs.declared.types.WriteKind.TheVariants as WriteKind
 use Rattle.sensor.specs.declared.types.View.{View}
-use Rattle.sensor.specs.declared.types.View.TheVariants as View
 use Rattle.sensor.specs.declared.types.Sensor.{Sensor}
 use Rattle.sensor.specs.Record.{with_i2c, is_quiet}
 use Rattle.sensor.specs.Mode.{soft_reset, criterion}

@@ -1,11 +1,10 @@
 -- The writes that a list of calls makes on a selected sensor are those seen at its edges.
-use Rattle.std.specs.Prelude.{◌+◌, ◌≡◌, Bool, ltb}
+use Rattle.std.specs.Prelude.{◌≡◌, Bool, ltb}
 use Rattle.std.proofs.Math.Path.{refl, sym, ap}
 use Rattle.std.proofs.Common.{◌∙◌}
 use Rattle.std.proofs.Math.Bool.{true, false}
 use mathlib.Core.List.{List, [], ◌∷◌, ◌++◌}
 use Rattle.std.proofs.Math.Option.{Option, none, some}
-use Rattle.laws.specs.Notation.{if◌then◌else◌}
 use Rattle.time.specs.declared.Time.{Time}
 use Rattle.i2c.specs.declared.types.Edge.{Edge}
 use Rattle.i2c.specs.Bus.{edge}
@@ -18,13 +17,11 @@ use Rattle.spi.specs.declared.types.Write.TheVariants as W
 use Rattle.spi.specs.declared.types.Shift.{Shift}
 use Rattle.spi.specs.declared.types.Shift.TheVariants as H
 use Rattle.spi.specs.Frame as F
-use Rattle.spi.specs.Lines.{Event, Rise, Deed, Now, turnaround_shift, rise_shift, fall_shift, noted, wrote, fetched, bit_deeds, deeds, Seen, seen}
+use Rattle.spi.specs.Lines.{Event, Rise, Deed, Now, turnaround_shift, rise_shift, fall_shift, noted, wrote, fetched, bit_deeds, deeds, Seen}
 use Rattle.spi.specs.Courses.{Pair, Fit, write_frames}
 use Rattle.spi.specs.Answers.{writes_answer}
 use Rattle.calls.specs.declared.types.Timed.{Timed}
-use Rattle.calls.specs.declared.types.Timed.TheVariants as Timed
 use Rattle.calls.specs.declared.types.Call.{Call}
-use Rattle.calls.specs.declared.types.Call.TheVariants as Call
 use Rattle.sensor.specs.declared.types.Sensor.{Sensor}
 use Rattle.sensor.specs.Record.{four_wire}
 use Rattle.samples.specs.Samples.{sync_local_until}

@@ -6,10 +6,8 @@ use Rattle.std.proofs.Math.Bool.{true, false}
 use Rattle.spi.specs.declared.types.Drive.{Drive}
 use Rattle.spi.specs.declared.types.Drive.TheVariants as Dr
 use Rattle.spi.specs.declared.types.Sent.{Sent}
-use Rattle.spi.specs.declared.types.Sent.TheVariants as Sent
 use Rattle.spi.specs.declared.types.Frame.{Frame}
 use Rattle.spi.specs.declared.types.FirstBit.{FirstBit}
-use Rattle.spi.specs.declared.types.FirstBit.TheVariants as FirstBit
 use Rattle.spi.specs.declared.types.Shift.{Shift}
 use Rattle.spi.specs.declared.types.Shift.TheVariants as H
 use Rattle.spi.specs.Frame as F
@@ -18,7 +16,6 @@ use Rattle.deadlines.specs.declared.Deadline.{Deadline}
 use Rattle.deadlines.specs.Deadlines.{is_set}
 use Rattle.sensor.specs.declared.types.Supply.{Supply}
 use Rattle.sensor.specs.declared.types.View.{View}
-use Rattle.sensor.specs.declared.types.View.TheVariants as View
 use Rattle.sensor.specs.declared.types.Sensor.{Sensor}
 use Rattle.sensor.specs.Record.{with_frame, is_off, serial_not_ready}
 use Rattle.sensor.specs.RegisterReads.{shown, peek, fetched, counts_as_read, byte_read}
@@ -26,7 +23,7 @@ use Rattle.serial.specs.SpiEdges as E
 use Rattle.effects.specs.Theorems.Keeps as K
 use Rattle.effects.specs.Theorems.Driver as D
 use Rattle.bus.specs.Spi.{Chosen, noted, sends}
-use Rattle.bus.specs.Theorems.Parts.{Parts, parts, Same, itself, of, is_never}
+use Rattle.bus.specs.Theorems.Parts.{Parts, Same, itself, of, is_never}
 use Rattle.bus.specs.Theorems.Fading.{driving, Faded}
 
 -- ---- effects that leave the frame but for its driver

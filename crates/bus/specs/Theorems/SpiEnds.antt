@@ -1,5 +1,5 @@
 -- Select 0, a supply below 2400 mV and the write of a soft reset do end hearing SPI.
-use Rattle.std.specs.Prelude.{ℕ, ◌≡◌, refl, Bool, true, false, not, ltb}
+use Rattle.std.specs.Prelude.{ℕ, ◌≡◌, refl, Bool, true, false, ltb}
 use Rattle.std.proofs.Common.{sym, ap, subst, ◌∙◌}
 use Rattle.time.specs.declared.Time.{Time}
 use Rattle.spi.specs.declared.types.Frame.{Frame}
@@ -10,9 +10,7 @@ use Rattle.spi.specs.Frame as F
 use Rattle.spi.specs.Lines.{past_end}
 use Rattle.deadlines.specs.Deadlines.{is_set}
 use Rattle.calls.specs.declared.types.Timed.{Timed}
-use Rattle.calls.specs.declared.types.Timed.TheVariants as Timed
 use Rattle.calls.specs.declared.types.Call.{Call}
-use Rattle.calls.specs.declared.types.Call.TheVariants as Call
 use Rattle.sensor.specs.declared.types.Sensor.{Sensor}
 use Rattle.sensor.specs.Record.{is_off, is_quiet, four_wire}
 use Rattle.sensor.specs.Select.{selected_to, may_select, set_selected}

@@ -13,7 +13,6 @@ use Rattle.spi.specs.Courses.{write_frame, Levels8, four_wire_read, three_wire_r
 use Rattle.sensor.specs.Image.{stock}
 use Rattle.calls.specs.declared.types.Timed.TheVariants as Timed
 use Rattle.calls.specs.declared.types.Call.{Call}
-use Rattle.calls.specs.declared.types.Call.TheVariants as Call
 use Rattle.calls.specs.declared.types.Starting.TheVariants as Starting
 use Rattle.bma150.specs.declared.host.Bma150.{Bma150}
 use Rattle.book.specs.Lists.{started, step, after, accepted}

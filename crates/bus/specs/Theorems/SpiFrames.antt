@@ -1,5 +1,5 @@
 -- SPI frames through the calls: any accepted moments, with other calls anywhere between.
-use Rattle.std.specs.Prelude.{◌≡◌, refl, Bool, true, false, not, ◌&&◌, List, [], ◌∷◌}
+use Rattle.std.specs.Prelude.{◌≡◌, refl, Bool, true, false, ◌&&◌, List, [], ◌∷◌}
 use Rattle.std.proofs.Common.{sym, ◌∙◌}
 use Rattle.std.proofs.Math.Path.{ap, subst}
 use Rattle.std.proofs.Math.Option.{Option, none, some}
@@ -7,7 +7,6 @@ use Rattle.laws.specs.Bools.{or_left, or_right}
 use Rattle.spi.specs.declared.types.Drive.TheVariants as D
 use Rattle.spi.specs.declared.types.Frame.{Frame}
 use Rattle.spi.specs.Lines.{Event, Now, Seen, seen}
-use Rattle.spi.specs.Answers.{floats}
 use Rattle.calls.specs.declared.types.Call.{Call}
 use Rattle.bma150.specs.declared.host.Bma150.{Bma150}
 use Rattle.book.specs.Lists.{accepts, step, after, accepted}

@@ -1,5 +1,5 @@
 -- Lists of calls as a selected sensor that hears SPI meets them: what their edges make, whatever calls come between.
-use Rattle.std.specs.Prelude.{◌≡◌, Bool, not, ◌||◌}
+use Rattle.std.specs.Prelude.{◌≡◌, Bool, ◌||◌}
 use Rattle.std.proofs.Math.Path.{refl, sym, ap}
 use Rattle.std.proofs.Common.{◌∙◌}
 use Rattle.std.proofs.Math.Bool.{true, false}
@@ -11,7 +11,6 @@ use Rattle.spi.specs.declared.types.Drive.TheVariants as D
 use Rattle.spi.specs.declared.types.Frame.{Frame}
 use Rattle.spi.specs.Lines.{Event, Now, serve, samples, deeds, Seen, left, seen}
 use Rattle.calls.specs.declared.types.Call.{Call}
-use Rattle.calls.specs.declared.types.Call.TheVariants as Call
 use Rattle.sensor.specs.declared.types.Sensor.{Sensor}
 use Rattle.sensor.specs.Record.{four_wire}
 use Rattle.samples.specs.Samples.{sync_local_until}

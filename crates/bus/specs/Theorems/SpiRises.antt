@@ -1,5 +1,5 @@
 -- The frame after an SPI edge, by what the edge meets.
-use Rattle.std.specs.Prelude.{ℕ, ◌≡◌, Bool, not, ltb}
+use Rattle.std.specs.Prelude.{ℕ, ◌≡◌, Bool, ltb}
 use Rattle.std.proofs.Math.Path.{refl}
 use Rattle.std.proofs.Common.{sym, ap, ◌∙◌}
 use Rattle.std.proofs.Math.Bool.{true, false}
@@ -18,17 +18,15 @@ use Rattle.spi.specs.declared.types.Shift.TheVariants as H
 use Rattle.spi.specs.Frame as F
 use Rattle.spi.specs.Lines.{Rise, Now, output, bit_served, serve}
 use Rattle.control.specs.declared.types.WriteKind.{WriteKind}
-use Rattle.control.specs.declared.types.WriteKind.TheVariants as WriteKind
 use Rattle.sensor.specs.declared.types.Sensor.{Sensor}
 use Rattle.sensor.specs.Record.{with_frame, four_wire}
-use Rattle.registers.specs.Map.{at}
 use Rattle.writes.specs.Write.{write_kind, write_register}
 use Rattle.serial.specs.SpiEdges as E
 use Rattle.effects.specs.Theorems.Keeps as K
 use Rattle.effects.specs.Theorems.Driver as D
 use Rattle.bus.specs.I2c.{is_reset}
 use Rattle.bus.specs.Spi.{Chosen, sends, write_resets}
-use Rattle.bus.specs.Theorems.Parts.{absurd_bool, of}
+use Rattle.bus.specs.Theorems.Parts.{absurd_bool}
 use Rattle.bus.specs.Theorems.Reports.{written_same}
 use Rattle.bus.specs.Theorems.Fading.{fading, Faded, unfaded, and_faded, output_faded, turning}
 use Rattle.bus.specs.Theorems.SpiEdges.{faded_of, listens, around, around_same, moved_frame, moved_rest, sends_framed}

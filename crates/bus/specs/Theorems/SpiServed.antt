@@ -12,9 +12,7 @@ use Rattle.spi.specs.Frame as F
 use Rattle.spi.specs.Lines.{Event, Rise, Fall, Now, serve, left}
 use Rattle.spi.proofs.Theorems.Broken.{left_selected}
 use Rattle.calls.specs.declared.types.Timed.{Timed}
-use Rattle.calls.specs.declared.types.Timed.TheVariants as Timed
 use Rattle.calls.specs.declared.types.Call.{Call}
-use Rattle.calls.specs.declared.types.Call.TheVariants as Call
 use Rattle.sensor.specs.declared.types.Sensor.{Sensor}
 use Rattle.sensor.specs.Record.{is_off, four_wire}
 use Rattle.sensor.specs.Select.{selected_to, may_select, set_selected}
@@ -28,7 +26,7 @@ use Rattle.book.specs.Lists.{accepts, step}
 use Rattle.effects.specs.Theorems.Driver as D
 use Rattle.bus.specs.I2c.{sampled}
 use Rattle.bus.specs.Spi.{Chosen, timed_edge, edge_of, at_fall, timed_now, now_of, timed_leaves, leaves_frame, sleeps_at}
-use Rattle.bus.specs.Theorems.Parts.{absurd_bool, Same, and_then, of}
+use Rattle.bus.specs.Theorems.Parts.{absurd_bool, Same, and_then}
 use Rattle.bus.specs.Theorems.Between.{due_same}
 use Rattle.bus.specs.Theorems.Calls.{accepted_leaves}
 use Rattle.bus.specs.Theorems.Unheard.{deaf_report}

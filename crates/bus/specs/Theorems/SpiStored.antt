@@ -1,8 +1,7 @@
 -- Stored writes over SPI: fifteen rises, an address byte and seven bits of a value, begin nothing; the sixteenth begins a stored write exactly where 01's rule holds. Any falls may stand between.
-use Rattle.std.specs.Prelude.{ℕ, ◌+◌, ◌<◌, ◌≡◌, Bool, true, false, List, [], ◌∷◌, ◌++◌}
+use Rattle.std.specs.Prelude.{ℕ, ◌<◌, ◌≡◌, Bool, true, false, List, [], ◌∷◌, ◌++◌, if◌then◌else◌}
 use Rattle.std.proofs.Math.Path.{refl, ap}
 use Rattle.std.proofs.Common.{◌∙◌}
-use Rattle.laws.specs.Notation.{if◌then◌else◌}
 use Rattle.laws.specs.Bytes.{sent_bit, all_shifted_in, seven_bits, bits_make_the_byte}
 use Rattle.time.specs.declared.Time.{Time}
 use Rattle.registers.specs.Access.{begins}
@@ -11,19 +10,16 @@ use Rattle.spi.specs.declared.types.Frame.{Frame}
 use Rattle.spi.specs.declared.types.Taken.{Taken}
 use Rattle.spi.specs.declared.types.Shift.{Shift}
 use Rattle.spi.specs.declared.types.Shift.TheVariants as H
-use Rattle.spi.specs.declared.types.Write.{Write}
 use Rattle.spi.specs.declared.types.Write.TheVariants as W
 use Rattle.spi.specs.Frame as F
-use Rattle.spi.specs.Lines.{output, fetched, past_end, seen, Seen}
+use Rattle.spi.specs.Lines.{past_end, seen, Seen}
 use Rattle.spi.proofs.Theorems.Frames.{receiving}
 use Rattle.calls.specs.declared.types.Timed.TheVariants as Timed
 use Rattle.calls.specs.declared.types.Call.{Call}
-use Rattle.calls.specs.declared.types.Call.TheVariants as Call
 use Rattle.sensor.specs.declared.types.Writing.{Writing}
 use Rattle.sensor.specs.declared.types.Sensor.{Sensor}
 use Rattle.sensor.specs.RegisterReads as R
 use Rattle.sensor.specs.declared.types.View.{View}
-use Rattle.sensor.specs.declared.types.View.TheVariants as View
 use Rattle.sensor.specs.Record.{with_frame, gate, is_writing, four_wire}
 use Rattle.samples.specs.Samples.{sync_local_until}
 use Rattle.writes.specs.Write.{write_register}

@@ -1,5 +1,5 @@
 -- Whole SPI frames of a selected sensor through the calls, in both wire modes.
-use Rattle.std.specs.Prelude.{ℕ, zero, suc, ◌+◌, ◌-◌, ◌≤◌, ◌<◌, ◌≡◌, Bool, not, eqb, drop, replicate}
+use Rattle.std.specs.Prelude.{ℕ, zero, suc, ◌+◌, ◌≤◌, ◌<◌, ◌≡◌, Bool, eqb, drop, replicate, if◌then◌else◌}
 use native.Mathlib.Omega.{arith}
 use Rattle.std.proofs.Math.Path.{refl, ap}
 use Rattle.std.proofs.Common.{sym, subst, ◌∙◌, length-drop}
@@ -7,10 +7,8 @@ use Rattle.std.proofs.Math.Bool.{true, false}
 use mathlib.Core.List.{List, [], ◌∷◌, ◌++◌}
 use Rattle.std.proofs.Math.Option.{Option, none, some}
 use Rattle.std.proofs.Math.ListN.{length}
-use Rattle.laws.specs.Notation.{if◌then◌else◌}
 use Rattle.time.specs.declared.Time.{Time}
 use Rattle.spi.specs.declared.types.Sent.{Sent}
-use Rattle.spi.specs.declared.types.Sent.TheVariants as Sent
 use Rattle.spi.specs.declared.types.Frame.{Frame}
 use Rattle.spi.specs.Frame as F
 use Rattle.spi.specs.Lines.{Event, Rise, Fall, Deed, Wrote, Now, Seen, now, left, seen}
@@ -22,7 +20,6 @@ use Rattle.registers.specs.Map.{SPI4}
 use Rattle.registers.specs.Access.{withheld}
 use Rattle.calls.proofs.Theorems.Left as Left
 use Rattle.calls.specs.declared.types.Call.{Call}
-use Rattle.calls.specs.declared.types.Call.TheVariants as Call
 use Rattle.sensor.specs.declared.types.Sensor.{Sensor}
 use Rattle.sensor.specs.Record.{is_off, four_wire, gate}
 use Rattle.sensor.specs.RegisterReads.{peek, fetched}

@@ -1,8 +1,7 @@
 -- Stored writes over I2C: START, 70 hex, a register and seven bits of a value begin nothing; the eighth rise begins a stored write exactly where 01's rule holds.
-use Rattle.std.specs.Prelude.{ℕ, ◌+◌, ◌%◌, ◌<◌, ◌≡◌, Bool, true, false, List, [], ◌++◌}
+use Rattle.std.specs.Prelude.{ℕ, ◌%◌, ◌<◌, ◌≡◌, Bool, true, false, List, [], ◌++◌, if◌then◌else◌}
 use Rattle.std.proofs.Math.Path.{refl, ap}
 use Rattle.std.proofs.Common.{◌∙◌, leb→le}
-use Rattle.laws.specs.Notation.{if◌then◌else◌}
 use Rattle.laws.specs.Bytes.{sent_bit, all_shifted_in, seven_bits, bits_make_the_byte}
 use Rattle.time.specs.declared.Time.{Time}
 use Rattle.nv.specs.Cycle as Cycle
@@ -20,17 +19,13 @@ use Rattle.i2c.specs.Target.{Target, deed}
 use Rattle.i2c.specs.Answers.{frees, acknowledge, address_answer, register_answer}
 use Rattle.i2c.proofs.Theorems.Frames.{and_serves, at, bits_received, write_address_served, register_byte}
 use Rattle.i2c.proofs.Theorems.Uses.{uses}
-use Rattle.registers.specs.Access.{stored, begins}
+use Rattle.registers.specs.Access.{begins}
 use Rattle.spi.specs.declared.types.Write.{Write}
-use Rattle.spi.specs.declared.types.Write.TheVariants as Write
 use Rattle.control.specs.declared.types.WriteKind.{WriteKind}
-use Rattle.control.specs.declared.types.WriteKind.TheVariants as WriteKind
 use Rattle.control.specs.Theorems.Begins.{is_stored, stored_begins}
 use Rattle.calls.specs.declared.types.Timed.TheVariants as Timed
 use Rattle.calls.specs.declared.types.Call.{Call}
-use Rattle.calls.specs.declared.types.Call.TheVariants as Call
 use Rattle.sensor.specs.declared.types.Operation.{Operation}
-use Rattle.sensor.specs.declared.types.Operation.TheVariants as Operation
 use Rattle.sensor.specs.declared.types.Sensor.{Sensor}
 use Rattle.sensor.specs.Record.{with_i2c, gate, is_writing}
 use Rattle.sensor.specs.Mode.{soft_reset, criterion}

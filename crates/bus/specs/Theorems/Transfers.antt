@@ -1,8 +1,7 @@
 -- UM10204's transfers through the calls: any accepted moments, with other calls and reports without an event anywhere between.
-use Rattle.std.specs.Prelude.{ℕ, ◌%◌, ◌<◌, ◌≤◌, ◌≡◌, refl, Bool, true, false, not, ◌&&◌, List, [], ◌∷◌, ◌++◌, length, drop}
+use Rattle.std.specs.Prelude.{ℕ, ◌%◌, ◌<◌, ◌≤◌, ◌≡◌, refl, Bool, true, false, not, ◌&&◌, List, [], ◌∷◌, ◌++◌, length, drop, if◌then◌else◌}
 use Rattle.std.proofs.Common.{ap, ◌∙◌}
 use Rattle.std.proofs.Math.Option.{Option, none, some}
-use Rattle.laws.specs.Notation.{if◌then◌else◌}
 use Rattle.time.specs.declared.Time.{Time}
 use Rattle.i2c.specs.declared.types.Levels.{Levels}
 use Rattle.i2c.specs.declared.types.Edge.{Edge}
@@ -13,16 +12,13 @@ use Rattle.i2c.specs.Target.{Target, deed, left, seen}
 use Rattle.i2c.specs.Answers.{free, acknowledge, silence, broken_answer, address_answer, register_answer, write_answer, read_answer, read_address_answer}
 use Rattle.i2c.proofs.Theorems.Frames.{write_served, read_served, combined_served, broken_register_served, broken_value_served, other_address_silent, nine_clocks_clear}
 use Rattle.spi.specs.declared.types.Drive.{Drive}
-use Rattle.spi.specs.declared.types.Drive.TheVariants as Drive
 use Rattle.registers.specs.declared.access.Gate.{Gate}
 use Rattle.registers.specs.Map.{at, operation, shadow_dis}
 use Rattle.registers.specs.Access.{withheld, unreadable}
 use Rattle.calls.specs.declared.types.Timed.TheVariants as Timed
 use Rattle.calls.specs.declared.types.Call.{Call}
-use Rattle.calls.specs.declared.types.Call.TheVariants as Call
 use Rattle.reads.specs.Reads.{is_shadowed, prepared}
 use Rattle.sensor.specs.declared.types.View.{View}
-use Rattle.sensor.specs.declared.types.View.TheVariants as View
 use Rattle.sensor.specs.declared.types.Sensor.{Sensor}
 use Rattle.sensor.specs.Record.{with_lines, with_i2c, serial_not_ready, is_quiet, four_wire, gate}
 use Rattle.sensor.specs.RegisterReads.{peek, fetched}

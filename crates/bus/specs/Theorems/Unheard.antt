@@ -1,9 +1,8 @@
 -- What the bus sees of a sensor that does not hear it: selected, off or dead, or quiet after a soft reset.
-use Rattle.std.specs.Prelude.{ℕ, ◌≡◌, Bool, cond, ◌&&◌}
+use Rattle.std.specs.Prelude.{ℕ, ◌≡◌, Bool, cond, ◌&&◌, if◌then◌else◌}
 use Rattle.std.proofs.Common.{arith, ◌∙◌}
 use Rattle.std.proofs.Math.Path.{refl, ap}
 use Rattle.std.proofs.Math.Bool.{true, false, not}
-use Rattle.laws.specs.Notation.{if◌then◌else◌}
 use Rattle.time.specs.declared.Time.{Time}
 use Rattle.i2c.specs.declared.types.Levels.{Levels}
 use Rattle.i2c.specs.declared.types.Edge.{Edge}
@@ -16,7 +15,6 @@ use Rattle.i2c.proofs.Theorems.Quiet.{quiet_aborts, quiet_conditions}
 use Rattle.deadlines.specs.Deadlines.{is_set}
 use Rattle.calls.specs.declared.types.Timed.TheVariants as Timed
 use Rattle.calls.specs.declared.types.Call.{Call}
-use Rattle.calls.specs.declared.types.Call.TheVariants as Call
 use Rattle.sensor.specs.declared.types.Sensor.{Sensor}
 use Rattle.sensor.specs.Record.{with_lines, with_i2c, is_off, serial_not_ready, is_quiet}
 use Rattle.samples.specs.Samples.{sync_local_until}

@@ -9,13 +9,11 @@ use Rattle.deadlines.specs.declared.Deadline.{Deadline}
 use Rattle.deadlines.specs.declared.Deadline.TheVariants.{At, Never}
 use Rattle.deadlines.specs.Deadlines.{is_at, is_by}
 use Rattle.calls.specs.declared.types.Timed.{Timed}
-use Rattle.calls.specs.declared.types.Timed.TheVariants as Timed
 use Rattle.calls.specs.declared.types.Call.{Call}
-use Rattle.calls.specs.declared.types.Call.TheVariants as Call
 use Rattle.calls.specs.declared.types.Starting.{Starting}
-use Rattle.calls.specs.declared.types.Starting.TheVariants as Starting
 use Rattle.calls.specs.Facts.{timed_facts, facts}
 use Rattle.calls.specs.Table.{wrong_length, beyond, any_beyond, out_of_range, same_levels, jumps, late, too_late, goes_back, due_by, due_at, before_due, beside_due, reserved, turned_down, rows, start_rows, refusal, start_refusal}
+use Rattle.calls.specs.Theorems.Exactly.{Reserved, TurnedDown}
 use Rattle.calls.proofs.Theorems.Left.{clear}
 use Rattle.calls.proofs.Theorems.Found.{never, Fault, fault, First, Tells, Finds, found_first, first_is_found}
 
@@ -102,14 +100,6 @@ faults last due lines c =
     ∷ fault 5 (IsTimed c (λ now t. DueFirst due now t))
     ∷ fault 6 (IsTimed c (λ now t. NotDue due now t))
     ∷ []
-
--- 9: bits 4..3 of the byte of register 14 are 3, or bits 2..0 are 7; command 0c's start does not have it
-abbrev pub Reserved : ℕ → Type 0
-Reserved measurement = (measurement / 8 % 4 ≡ 3) ⊎ (measurement % 8 ≡ 7)
-
-abbrev pub TurnedDown : Starting → ℕ → Type 0
-TurnedDown Starting.Checked measurement = Reserved measurement
-TurnedDown Starting.Stored measurement = ⊥
 
 -- a start: 1, 9, 3
 abbrev pub start_faults : Starting → Time → (length measurement : ℕ) → List Fault

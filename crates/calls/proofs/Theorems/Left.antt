@@ -6,7 +6,6 @@ use Rattle.time.specs.declared.Time.{Time}
 use Rattle.i2c.specs.declared.types.Levels.{Levels}
 use Rattle.deadlines.specs.declared.Deadline.{Deadline}
 use Rattle.calls.specs.declared.types.Call.{Call}
-use Rattle.calls.specs.declared.types.Call.TheVariants as Call
 use Rattle.calls.specs.declared.types.Starting.{Starting}
 use Rattle.calls.specs.Facts.{facts}
 use Rattle.calls.specs.Table.{rows, start_rows, first_found, wrong_length, too_late, goes_back, out_of_range, jumps, before_due, beside_due, refusal, start_refusal, unless_refused}

@@ -2,9 +2,7 @@
 use Rattle.std.specs.Prelude.{ℕ, ◌≡◌, refl, false, cond, eqb}
 use Rattle.std.proofs.Common.{sym, ap, ◌∙◌}
 use Rattle.calls.specs.declared.types.Refusal.{Refusal}
-use Rattle.calls.specs.declared.types.Refusal.TheVariants as Refusal
 use Rattle.calls.specs.declared.types.Outcome.{Outcome}
-use Rattle.calls.specs.declared.types.Outcome.TheVariants as Outcome
 use Rattle.calls.specs.Table.{refusal_number, number}
 
 -- the refusal that has a number, and what is answered with one

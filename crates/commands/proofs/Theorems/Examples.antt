@@ -5,7 +5,6 @@ use Rattle.time.specs.declared.Time.{Time}
 use Rattle.calls.specs.declared.types.Timed.TheVariants as Timed
 use Rattle.calls.specs.declared.types.Call.TheVariants as Call
 use Rattle.commands.specs.declared.Command.{Command}
-use Rattle.commands.specs.declared.Command.TheVariants as Command
 use Rattle.commands.specs.Encode.{bytes, time_bytes, complement, timed_bytes, call_bytes, encoded, TimedFits, CallFits, Fits}
 
 -- 01's input: 03 00 00 4e 20 sets 20000, 0b 16 views address 16

@@ -2,7 +2,6 @@
 use Rattle.std.specs.Prelude.{◌≡◌, refl, List, [], ◌∷◌, ◌++◌, ℕ, ◌+◌, ◌-◌, ◌*◌, ◌≤◌, ◌<◌, length, take, drop, get_or}
 use Rattle.std.proofs.Common.{sym, ap, ◌∙◌, add-zero, add_assoc, add-one, arith, lt-ltb, le-ltb, length-drop, take-suc, get_or-drop, drop-drop}
 use Rattle.commands.specs.declared.Command.{Command}
-use Rattle.commands.specs.declared.Command.TheVariants as Command
 use Rattle.commands.specs.Decode.{part, big_from, big, number_at, moment_at, within}
 
 pub big_more : (x : ℕ) (l : List ℕ) (b : ℕ) → big_from x (l ++ (b ∷ [])) ≡ big_from x l * 256 + b

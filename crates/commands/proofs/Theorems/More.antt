@@ -1,18 +1,14 @@
 -- What follows a command does not alter it, and no command is longer than what is there.
-use Rattle.std.specs.Prelude.{◌≡◌, refl, Bool, true, false, cond, List, ◌∷◌, ◌++◌, ℕ, ◌+◌, ◌-◌, ◌≤◌, ◌<◌, ltb, eqb, take, drop}
+use Rattle.std.specs.Prelude.{◌≡◌, refl, Bool, true, false, cond, List, ◌∷◌, ◌++◌, ℕ, ◌+◌, ◌≤◌, ◌<◌, ltb, eqb, take, drop}
 use Rattle.std.proofs.Common.{sym, ap, ◌∙◌, arith, length-drop}
 use borrow.Author.Tests.{lt-ltb, le-ltb, ltb-true, ltb-false, ne_eqb}
 use Rattle.std.proofs.Math.ListN.{length, length-append, get_or-append}
 use Rattle.std.proofs.lemmas.List.{drop-append-le, take-append-le}
 use Rattle.time.specs.declared.Time.{Time}
 use Rattle.calls.specs.declared.types.Timed.{Timed}
-use Rattle.calls.specs.declared.types.Timed.TheVariants as Timed
 use Rattle.calls.specs.declared.types.Call.{Call}
-use Rattle.calls.specs.declared.types.Call.TheVariants as Call
 use Rattle.calls.specs.declared.types.Starting.{Starting}
-use Rattle.calls.specs.declared.types.Starting.TheVariants as Starting
 use Rattle.commands.specs.declared.Command.{Command}
-use Rattle.commands.specs.declared.Command.TheVariants as Command
 use Rattle.commands.specs.Decode.{part, big, number_at, moment_at, signed_at, byte_at, within, either_of, lines, start, image, accelerations, temperature, supply, due, select, rising, falling, pins, stored_image, view, decode_from_0c, decode_06_to_0b, decode_01_to_05, decoded, wants_from_0c, wants_06_to_0b, wants, timed, timed_size, call_size, size, is_bad}
 
 -- ---- what follows does not alter the command at the head

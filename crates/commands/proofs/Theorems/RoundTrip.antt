@@ -4,13 +4,9 @@ use Rattle.std.proofs.Common.{ap, ◌∙◌, pow-suc, div-add-mod', mod-eq_of_lt
 use Rattle.time.specs.declared.Time.{Time}
 use Rattle.i2c.specs.declared.types.Levels.{Levels}
 use Rattle.calls.specs.declared.types.Timed.{Timed}
-use Rattle.calls.specs.declared.types.Timed.TheVariants as Timed
 use Rattle.calls.specs.declared.types.Call.{Call}
-use Rattle.calls.specs.declared.types.Call.TheVariants as Call
 use Rattle.calls.specs.declared.types.Starting.{Starting}
-use Rattle.calls.specs.declared.types.Starting.TheVariants as Starting
 use Rattle.commands.specs.declared.Command.{Command}
-use Rattle.commands.specs.declared.Command.TheVariants as Command
 use Rattle.commands.specs.Decode.{big, number_at, signed, moment_at, bit, timed, within, lines, start, image, accelerations, temperature, supply, due, select, rising, falling, pins, stored_image, view, decode_01_to_05, decode_from_0c, decode_06_to_0b, decoded, timed_size, call_size, size}
 use Rattle.commands.specs.Encode.{bytes, time_bytes, complement, lines_byte, timed_bytes, call_bytes, start_byte, encoded, TimeFits, SignedFits, TimedFits, CallFits, Fits}
 use Rattle.commands.proofs.Theorems.Laws.{big_more}

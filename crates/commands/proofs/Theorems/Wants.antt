@@ -3,9 +3,7 @@ use Rattle.std.specs.Prelude.{◌≡◌, refl, Bool, true, false, cond, List, �
 use Rattle.std.proofs.Common.{sym, ◌∙◌, arith, lt-ltb}
 use Rattle.std.proofs.Math.Path.{ap}
 use Rattle.calls.specs.declared.types.Starting.{Starting}
-use Rattle.calls.specs.declared.types.Starting.TheVariants as Starting
 use Rattle.commands.specs.declared.Command.{Command}
-use Rattle.commands.specs.declared.Command.TheVariants as Command
 use Rattle.commands.specs.Decode.{byte_at, start, accelerations, temperature, supply, due, select, rising, falling, pins, stored_image, view, decode_from_0c, decode_06_to_0b, decode_01_to_05, decoded, wants_from_0c, wants_06_to_0b, wants, timed_size, call_size, size, is_bad}
 
 -- unless it is bad, the command takes n bytes

@@ -1,8 +1,7 @@
 use mir.Syntax.{w32}
 use mir.ValLaws.{to_z-of_z}
 use Rattle.commands.specs.Decode.{accelerations}
-use Rattle.commands.proofs.Theorems.Laws.{there, missing, moment_drop, number_drop}
-use borrow.Author.Rules.{rules}
+use Rattle.commands.proofs.Theorems.Laws.{there, moment_drop, number_drop}
 use Rattle.commands.proofs.accelerations.Goals as goal
 
 pub returns : goal.returns

@@ -1,6 +1,5 @@
 use Rattle.commands.specs.Decode.{due}
-use Rattle.commands.proofs.Theorems.Laws.{there, missing, moment_drop}
-use borrow.Author.Rules.{rules}
+use Rattle.commands.proofs.Theorems.Laws.{there, moment_drop}
 use Rattle.commands.proofs.due.Goals as goal
 
 pub returns : goal.returns

@@ -1,11 +1,8 @@
-use borrow.Author.Rules.{rules}
 use native.Mathlib.Omega.{arith}
-use mathlib.Core.Path.{◌≡◌, ◌∙◌}
-use Prim.Native.Nat.{ℕ, ◌+◌, ◌-◌, ◌*◌, ◌^◌, ◌≤◌, ◌<◌}
+use Prim.Native.Nat.{ℕ, ◌+◌, ◌*◌, ◌^◌, ◌≤◌, ◌<◌}
 use native.Mathlib.Nat.{pow-le-pow_right}
 use lib.Pow.{pow-add}
 use lib.ListN.{length}
-use Rattle.commands.specs.Decode.{number_at}
 use Rattle.commands.proofs.Theorems.Laws.{number_none, number_more}
 use Rattle.commands.proofs.number.Goals as goal
 

@@ -1,11 +1,10 @@
 use native.Mathlib.Omega.{arith}
-use Prim.Native.Nat.{◌+◌, ◌<◌, ◌≤◌}
+use Prim.Native.Nat.{◌+◌, ◌≤◌}
 use lib.ListN.{get_or}
-use borrow.Author.Tests.{lt-ltb, le-ltb}
+use borrow.Author.Tests.{le-ltb}
 use lib.Seq.{get_or-drop}
 use Rattle.commands.specs.Decode.{pins}
-use Rattle.commands.proofs.Theorems.Laws.{there, missing, moment_drop}
-use borrow.Author.Rules.{rules}
+use Rattle.commands.proofs.Theorems.Laws.{there, moment_drop}
 use Rattle.commands.proofs.pins.Goals as goal
 
 pub returns : goal.returns

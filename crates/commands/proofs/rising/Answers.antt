@@ -1,8 +1,7 @@
 use borrow.Author.Tests.{eq-eqb, ne_eqb}
 use lib.Seq.{get_or-drop}
 use Rattle.commands.specs.Decode.{rising}
-use Rattle.commands.proofs.Theorems.Laws.{there, missing, moment_drop}
-use borrow.Author.Rules.{rules}
+use Rattle.commands.proofs.Theorems.Laws.{there, moment_drop}
 use Rattle.commands.proofs.rising.Goals as goal
 
 pub returns-then-b-eq0 : goal.returns-then-b-eq0

@@ -1,6 +1,5 @@
 use Rattle.commands.specs.Decode.{start}
-use Rattle.commands.proofs.Theorems.Laws.{there, missing, moment_drop}
-use borrow.Author.Rules.{rules}
+use Rattle.commands.proofs.Theorems.Laws.{there, moment_drop}
 use Rattle.commands.proofs.start.Goals as goal
 
 pub returns : goal.returns

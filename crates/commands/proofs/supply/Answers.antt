@@ -1,6 +1,5 @@
 use Rattle.commands.specs.Decode.{supply}
-use Rattle.commands.proofs.Theorems.Laws.{there, missing, moment_drop, number_drop}
-use borrow.Author.Rules.{rules}
+use Rattle.commands.proofs.Theorems.Laws.{there, moment_drop, number_drop}
 use Rattle.commands.proofs.supply.Goals as goal
 
 pub returns : goal.returns

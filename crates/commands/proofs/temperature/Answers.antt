@@ -1,8 +1,7 @@
 use mir.Syntax.{w32}
 use mir.ValLaws.{to_z-of_z}
 use Rattle.commands.specs.Decode.{temperature}
-use Rattle.commands.proofs.Theorems.Laws.{there, missing, number_drop}
-use borrow.Author.Rules.{rules}
+use Rattle.commands.proofs.Theorems.Laws.{there, number_drop}
 use Rattle.commands.proofs.temperature.Goals as goal
 
 pub returns : goal.returns

@@ -4,7 +4,6 @@ use Rattle.registers.specs.Map as Map
 use Rattle.registers.specs.declared.access.Gate.{Gate}
 use Rattle.registers.specs.Access.{ignores, stored, begins}
 use Rattle.control.specs.declared.types.WriteKind.{WriteKind}
-use Rattle.control.specs.declared.types.WriteKind.TheVariants as WriteKind
 use Rattle.control.specs.Kinds.{written_control, written_register, kind_of_write}
 
 -- it begins a stored write

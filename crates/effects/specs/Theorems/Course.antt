@@ -1,5 +1,5 @@
 -- All that a call does is a course of edges, resets, returns and steps without a sample; so every mark says what the value beside it is.
-use Prim.Native.Nat.{ℕ, zero, suc, ◌+◌, ◌/◌, ◌<◌}
+use Prim.Native.Nat.{ℕ, zero, suc, ◌/◌, ◌<◌}
 use Rattle.std.proofs.Common.{arith, sym, subst, ◌∙◌, length-append, get_or-set_same, get_or-set_other, get_or-take, length-take-le, leb-false, eqb-true}
 use Rattle.std.proofs.Math.Path.{◌≡◌, refl, ap}
 use Rattle.std.specs.Prelude.{Bool, true, false, cond, ◌⊎◌, leb, eqb, ℤ, set, take, replicate}
@@ -11,7 +11,6 @@ use Rattle.laws.specs.Iterate.{iterate}
 use Rattle.time.specs.declared.Time.{Time}
 use Rattle.filter.proofs.Answers.{mean_where_full, code_where_not}
 use Rattle.control.specs.declared.types.WriteKind.{WriteKind}
-use Rattle.control.specs.declared.types.WriteKind.TheVariants as WriteKind
 use Rattle.control.specs.Lengths.{needs}
 use Rattle.filter.specs.Filter.{selected, full, answered}
 use Rattle.reads.specs.Reads.{axis_of, without_new_data}

@@ -18,11 +18,8 @@ use Rattle.registers.specs.Codes.{code_low, code_high, temperature}
 use Rattle.filter.specs.Filter.{answered}
 use Rattle.deadlines.specs.Deadlines.{is_set, is_at}
 use Rattle.control.specs.declared.types.WriteKind.{WriteKind}
-use Rattle.control.specs.declared.types.WriteKind.TheVariants as WriteKind
 use Rattle.control.specs.declared.types.SelfTest.{SelfTest}
-use Rattle.control.specs.declared.types.SelfTest.TheVariants as SelfTest
 use Rattle.control.specs.declared.types.Sleep.{Sleep}
-use Rattle.control.specs.declared.types.Sleep.TheVariants as Sleep
 use Rattle.control.specs.Automatic.{holds, pauses_again}
 use Rattle.control.specs.Kinds as Kinds
 use Rattle.sampling.specs.declared.types.Input.{Input}
@@ -31,7 +28,6 @@ use Rattle.sampling.specs.declared.types.Test.TheVariants.{Off, Phases}
 use Rattle.sampling.specs.declared.types.Acquisition.{Acquisition}
 use Rattle.sampling.specs.Phase as Phase
 use Rattle.sensor.specs.declared.types.Operation.{Operation}
-use Rattle.sensor.specs.declared.types.Operation.TheVariants as Operation
 use Rattle.sensor.specs.declared.types.Sensor.{Sensor}
 use Rattle.sensor.specs.Record.{put, automatic}
 use Rattle.sensor.specs.Mode.{criterion, may_sleep, pause_restarted, interrupt_held, pause_if_idle, automatic_control}

@@ -4,15 +4,10 @@ use Rattle.std.proofs.Common.{◌∙◌}
 use Rattle.time.specs.declared.Time.{Time}
 use Rattle.i2c.specs.declared.types.Edge.{Edge}
 use Rattle.spi.specs.declared.types.Sent.{Sent}
-use Rattle.spi.specs.declared.types.Sent.TheVariants as Sent
 use Rattle.control.specs.declared.types.WriteKind.{WriteKind}
-use Rattle.control.specs.declared.types.WriteKind.TheVariants as WriteKind
 use Rattle.control.specs.declared.types.SelfTest.{SelfTest}
-use Rattle.control.specs.declared.types.SelfTest.TheVariants as SelfTest
 use Rattle.control.specs.declared.types.Sleep.{Sleep}
-use Rattle.control.specs.declared.types.Sleep.TheVariants as Sleep
 use Rattle.sensor.specs.declared.types.View.{View}
-use Rattle.sensor.specs.declared.types.View.TheVariants as View
 use Rattle.sensor.specs.declared.types.Sensor.{Sensor}
 use Rattle.deadlines.specs.Deadlines.{is_set, is_at}
 use Rattle.control.specs.Automatic.{holds, pauses_again}

@@ -1,8 +1,7 @@
 -- Range code 3 and bandwidth code 7 of register 14, which the data sheet reserves, act as 8 g and bandwidth code 6 (the Rust's rule): nothing but showing the register tells them apart.
-use Rattle.std.specs.Prelude.{ℕ, zero, suc, ◌+◌, ◌-◌, ◌*◌, ◌/◌, min, ◌≡◌, refl, false, List, [], ◌∷◌, ℤ, get_or, set}
+use Rattle.std.specs.Prelude.{ℕ, zero, suc, ◌+◌, ◌*◌, ◌/◌, min, ◌≡◌, refl, false, List, [], ◌∷◌, ℤ, get_or, set, if◌then◌else◌}
 use Rattle.std.proofs.Common.{arith, sym, ap, ◌∙◌, get_or-set_other, ne_eqb}
 use Rattle.std.proofs.Math.IntN.{pos}
-use Rattle.laws.specs.Notation.{if◌then◌else◌}
 use Rattle.time.specs.declared.Time.{Time}
 use Rattle.time.specs.declared.Duration.{Duration}
 use Rattle.filter.specs.declared.Filter.{Filter}

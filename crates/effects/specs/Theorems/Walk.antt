@@ -7,37 +7,26 @@ use Rattle.nv.specs.Cycle as Cycle
 use Rattle.i2c.specs.declared.types.Levels.{Levels}
 use Rattle.i2c.specs.declared.types.Edge.{Edge}
 use Rattle.i2c.specs.declared.types.Action.{Action}
-use Rattle.i2c.specs.declared.types.Action.TheVariants as Action
 use Rattle.i2c.specs.Bus.{edge}
 use Rattle.i2c.specs.Engine as E
 use Rattle.spi.specs.declared.types.Sent.{Sent}
-use Rattle.spi.specs.declared.types.Sent.TheVariants as Sent
 use Rattle.spi.specs.declared.types.Clocked.{Clocked}
-use Rattle.spi.specs.declared.types.Clocked.TheVariants as Clocked
 use Rattle.spi.specs.declared.types.FirstBit.{FirstBit}
-use Rattle.spi.specs.declared.types.FirstBit.TheVariants as FirstBit
 use Rattle.spi.specs.declared.types.Write.{Write}
-use Rattle.spi.specs.declared.types.Write.TheVariants as Write
 use Rattle.spi.specs.declared.types.Shift.{Shift}
-use Rattle.spi.specs.declared.types.Shift.TheVariants as Shift
 use Rattle.spi.specs.Frame as F
 use Rattle.deadlines.specs.Deadlines.{is_set, is_at}
 use Rattle.control.specs.declared.types.WriteKind.{WriteKind}
-use Rattle.control.specs.declared.types.WriteKind.TheVariants as WriteKind
 use Rattle.control.specs.declared.types.SelfTest.{SelfTest}
-use Rattle.control.specs.declared.types.SelfTest.TheVariants as SelfTest
 use Rattle.control.specs.declared.types.Sleep.{Sleep}
-use Rattle.control.specs.declared.types.Sleep.TheVariants as Sleep
 use Rattle.control.specs.Automatic.{holds, pauses_again}
 use Rattle.control.specs.Kinds as Kinds
 use Rattle.registers.specs.Map.{at, operation, latch_INT}
 use Rattle.sensor.specs.declared.types.View.{View}
-use Rattle.sensor.specs.declared.types.View.TheVariants as View
 use Rattle.sensor.specs.declared.types.Operation.{Operation}
-use Rattle.sensor.specs.declared.types.Operation.TheVariants as Operation
 use Rattle.sensor.specs.declared.types.Sensor.{Sensor}
 use Rattle.sensor.specs.Record.{with_frame, is_off, serial_not_ready, is_quiet, automatic, four_wire}
-use Rattle.sensor.specs.Mode.{criterion, may_sleep, pause, pause_restarted, interrupt_held, pause_if_idle, automatic_control}
+use Rattle.sensor.specs.Mode.{criterion, may_sleep, pause_restarted, interrupt_held, pause_if_idle, automatic_control}
 use Rattle.sensor.specs.RegisterReads.{peek, fetched, counts_as_read, byte_read}
 use Rattle.sensor.specs.Select.{selected_to, may_select, set_selected}
 use Rattle.writes.specs.Write.{recounted, interrupts_written, tested, slept, image_written, control_written, mode_written, operation_written, register_effect, then_automatic, write_effect, write_kind, write_register}

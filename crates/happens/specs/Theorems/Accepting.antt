@@ -7,15 +7,12 @@ use Rattle.deadlines.specs.declared.Deadline.{Deadline}
 use Rattle.deadlines.specs.Deadlines.{is_by}
 use Rattle.i2c.specs.declared.types.Levels.{Levels}
 use Rattle.calls.specs.declared.types.Timed.{Timed}
-use Rattle.calls.specs.declared.types.Timed.TheVariants as Timed
 use Rattle.calls.specs.declared.types.Call.{Call}
-use Rattle.calls.specs.declared.types.Call.TheVariants as Call
 use Rattle.calls.specs.declared.types.Kind.TheVariants as Kind
 use Rattle.calls.specs.declared.types.Dated.TheVariants as Dated
 use Rattle.calls.specs.declared.types.Bytes.TheVariants as Bytes
 use Rattle.calls.specs.declared.types.Axes.TheVariants as Axes
 use Rattle.calls.specs.declared.types.Lines.{Lines}
-use Rattle.calls.specs.declared.types.Lines.TheVariants as Lines
 use Rattle.calls.specs.declared.types.Facts.{Facts}
 use Rattle.calls.specs.Table as T
 use Rattle.calls.specs.Facts as TF

@@ -8,19 +8,17 @@ use Rattle.time.specs.Time.{ticks, precedes}
 use Rattle.nv.specs.Cell.{write_length, cell_number, byte}
 use Rattle.nv.specs.Cycle as Cycle
 use Rattle.deadlines.specs.declared.Deadline.{Deadline}
-use Rattle.deadlines.specs.declared.Deadline.TheVariants.{At, Never}
+use Rattle.deadlines.specs.declared.Deadline.TheVariants.{Never}
 use Rattle.deadlines.specs.Deadlines.{is_set, is_by}
 use Rattle.spi.specs.Frame as F
 use Rattle.calls.specs.declared.types.Timed.TheVariants as Timed
 use Rattle.calls.specs.declared.types.Call.{Call}
-use Rattle.calls.specs.declared.types.Call.TheVariants as Call
 use Rattle.calls.specs.Table as T
 use Rattle.calls.specs.Facts as TF
 use Rattle.sensor.specs.declared.types.Operation.{Operation}
-use Rattle.sensor.specs.declared.types.Operation.TheVariants as Operation
 use Rattle.sensor.specs.declared.types.Sensor.{Sensor}
 use Rattle.sensor.specs.Record.{is_off}
-use Rattle.sensor.specs.Image.{cell_byte, with_cell, image_at, nonvolatile, power_on}
+use Rattle.sensor.specs.Image.{cell_byte, with_cell, image_at, power_on}
 use Rattle.sensor.specs.Select.{reselected, selected_to, may_select}
 use Rattle.samples.specs.Samples.{samples_run, write_end, next_deadline, interaction_deadline}
 use Rattle.waits.specs.Supply as Supply

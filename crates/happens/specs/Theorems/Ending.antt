@@ -6,7 +6,6 @@ use Rattle.time.specs.declared.Time.{Time}
 use Rattle.nv.specs.Cycle as Cycle
 use Rattle.calls.specs.declared.types.Timed.TheVariants as Timed
 use Rattle.calls.specs.declared.types.Call.{Call}
-use Rattle.calls.specs.declared.types.Call.TheVariants as Call
 use Rattle.calls.specs.Table as T
 use Rattle.sensor.specs.declared.types.Operation.TheVariants as Operation
 use Rattle.sensor.specs.declared.types.Sensor.{Sensor}
@@ -14,7 +13,7 @@ use Rattle.sensor.specs.Image.{power_on}
 use Rattle.bma150.specs.declared.host.Bma150.{Bma150}
 use Rattle.bma150.specs.Called.{called}
 use Rattle.book.specs.Does.{timed_does, does}
-use Rattle.book.specs.Lists.{Fractions, Start, started, accepts, accepted, zeroed, met_zero, Returns}
+use Rattle.book.specs.Lists.{Fractions, Start, started, accepts, zeroed, met_zero, Returns}
 use Rattle.book.specs.Claim.{ending}
 use Rattle.happens.specs.Happens.{Wanted, Happens}
 use Rattle.happens.specs.Theorems.Going.{Goes, goes_on, all_fit}

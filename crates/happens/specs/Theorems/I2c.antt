@@ -17,10 +17,8 @@ use Rattle.calls.specs.declared.types.Call.{Call}
 use Rattle.calls.proofs.Theorems.Exactly.{same_whole}
 use Rattle.registers.specs.Map.{at, control, ee_w}
 use Rattle.sensor.specs.declared.types.Operation.{Operation}
-use Rattle.sensor.specs.declared.types.Operation.TheVariants as Operation
 use Rattle.sensor.specs.declared.types.Writing.{Writing}
 use Rattle.sensor.specs.declared.types.Sensor.{Sensor}
-use Rattle.sensor.specs.Record.{automatic}
 use Rattle.sensor.specs.Image.{from_nonvolatile}
 use Rattle.samples.specs.Samples.{write_end}
 use Rattle.writes.specs.Write.{write_register}

@@ -1,5 +1,5 @@
 -- Every stored write happens over SPI: select, and four write frames at the start's time.
-use Rattle.std.specs.Prelude.{ℕ, ◌+◌, ◌^◌, ◌<◌, ◌≡◌, Bool, true, false}
+use Rattle.std.specs.Prelude.{ℕ, ◌^◌, ◌<◌, ◌≡◌, Bool, true, false}
 use Rattle.std.proofs.Common.{arith, sym, ap, subst, ◌∙◌, lit<}
 use Rattle.std.proofs.Math.Path.{refl}
 use mathlib.Core.List.{List, [], ◌∷◌, ◌++◌}
@@ -10,13 +10,10 @@ use Rattle.nv.specs.Cycle as Cycle
 use Rattle.deadlines.specs.Deadlines.{is_set, is_by}
 use Rattle.spi.specs.Frame as F
 use Rattle.calls.specs.declared.types.Call.{Call}
-use Rattle.calls.specs.declared.types.Call.TheVariants as Call
 use Rattle.registers.specs.Map.{at, control, ee_w}
 use Rattle.sensor.specs.declared.types.Operation.{Operation}
-use Rattle.sensor.specs.declared.types.Operation.TheVariants as Operation
 use Rattle.sensor.specs.declared.types.Writing.{Writing}
 use Rattle.sensor.specs.declared.types.Sensor.{Sensor}
-use Rattle.sensor.specs.Record.{automatic}
 use Rattle.sensor.specs.Image.{from_nonvolatile}
 use Rattle.sensor.specs.Select.{reselected, selected_to, may_select}
 use Rattle.samples.specs.Samples.{write_end}

@@ -20,7 +20,6 @@ use Rattle.spi.specs.Frame as F
 use Rattle.spi.proofs.Theorems.Frames.{receiving}
 use Rattle.calls.specs.declared.types.Timed.TheVariants as Timed
 use Rattle.calls.specs.declared.types.Call.{Call}
-use Rattle.calls.specs.declared.types.Call.TheVariants as Call
 use Rattle.calls.specs.Table as T
 use Rattle.sensor.specs.declared.types.Sensor.{Sensor}
 use Rattle.sensor.specs.Record.{with_frame, four_wire}

@@ -1,5 +1,5 @@
 -- The sensor of an accepted start.
-use Rattle.std.specs.Prelude.{ℕ, ◌^◌, ◌<◌, ◌≤◌, ◌≡◌, refl, true, false, List, eqb, length}
+use Rattle.std.specs.Prelude.{ℕ, ◌^◌, ◌<◌, ◌≡◌, refl, true, false, List, eqb, length}
 use Rattle.std.proofs.Common.{arith, ap, lit≤}
 use borrow.Author.Tests.{leb-false}
 use Rattle.std.proofs.lemmas.List.Edits.{length-paste}

@@ -13,7 +13,6 @@ use Rattle.deadlines.specs.declared.Deadlines.{Deadlines}
 use Rattle.deadlines.proofs.Theorems.Earliest.{sooner_never}
 use Rattle.control.specs.Lengths.{acquisition_delay}
 use Rattle.sensor.specs.declared.types.Operation.{Operation}
-use Rattle.sensor.specs.declared.types.Operation.TheVariants as Operation
 use Rattle.sensor.specs.declared.types.Sensor.{Sensor}
 use Rattle.sensor.specs.Record.{is_off, automatic}
 use Rattle.samples.specs.Samples.{samples_run, next_sample, write_end, sample_due, next_deadline, interaction_deadline}

@@ -15,12 +15,10 @@ use Rattle.registers.specs.declared.access.Gate.{Gate}
 use Rattle.registers.specs.Map.{at, control, operation, ee_w, wake_up}
 use Rattle.registers.specs.Access.{unwritable, stored, image_blocks, sleep_blocks, locked, ignores}
 use Rattle.control.specs.declared.types.WriteKind.{WriteKind}
-use Rattle.control.specs.declared.types.WriteKind.TheVariants as WriteKind
 use Rattle.control.specs.Kinds as Kinds
 use Rattle.sampling.specs.declared.types.Test.TheVariants as Test
 use Rattle.sampling.specs.Phase.{with_test}
 use Rattle.sensor.specs.declared.types.Operation.{Operation}
-use Rattle.sensor.specs.declared.types.Operation.TheVariants as Operation
 use Rattle.sensor.specs.declared.types.Sensor.{Sensor}
 use Rattle.sensor.specs.Record.{put, with_reads, with_sampling, gate, automatic, is_writing, runs}
 use Rattle.sensor.specs.Image.{acquiring, shadowing}

@@ -23,10 +23,10 @@ use Rattle.i2c.specs.declared.types.Phase.TheVariants as P
 use Rattle.i2c.specs.declared.types.Action.TheVariants as A
 use Rattle.i2c.specs.declared.types.Step.{Step}
 use Rattle.i2c.specs.Bus.{is_condition, is_start, is_rise, is_fall, data_at}
-use Rattle.i2c.specs.Engine.{conditioned, acknowledging, clocks, within_byte, pointer_after, bit_taken, byte_step, at_ninth, followed, acknowledge_step, answered, answer, answer_step, ninth_step, addressed, received, completes, completed, step, written, reads_next}
+use Rattle.i2c.specs.Engine.{conditioned, acknowledging, within_byte, pointer_after, bit_taken, byte_step, at_ninth, followed, acknowledge_step, answered, answer, answer_step, ninth_step, addressed, received, completes, completed, step, reads_next}
 use Rattle.i2c.specs.Transfers.{clocked, ninth_clock, byte_frame, address_frame, again, stop, broken, nine_clocks, starts, Pair, Bytes, pairs, write_transfer, Levels8, read_byte, acknowledged, read_address, read_transfer, combined}
 use Rattle.i2c.specs.Target.{Target, target, act, deed, serve, Seen, seen_at, now_shown, left, seen}
-use Rattle.i2c.specs.Answers.{free_and, free, held, acknowledge, silent, silence, frees, broken_answer, address_answer, register_answer, value_answer, pairs_answer, pairs_pointer, write_answer, byte_answer, next_register, bytes_answer, register_after, shown_after, read_answer, read_address_answer}
+use Rattle.i2c.specs.Answers.{free_and, free, acknowledge, silent, silence, frees, broken_answer, address_answer, register_answer, value_answer, pairs_answer, pairs_pointer, write_answer, byte_answer, next_register, bytes_answer, register_after, shown_after, read_answer, read_address_answer}
 
 abbrev Shown : Type 0
 Shown = List (ℕ → ℕ)

@@ -1,8 +1,7 @@
 -- Quiet after a soft reset: an acknowledge that was begun is finished, and nothing else is heard, START included.
-use Rattle.std.specs.Prelude.{◌≡◌, Bool, true, false, not, ℕ}
+use Rattle.std.specs.Prelude.{◌≡◌, Bool, true, false, ℕ, if◌then◌else◌}
 use Rattle.std.proofs.Math.Path.{refl}
 use Rattle.std.proofs.Common.{arith}
-use Rattle.laws.specs.Notation.{if◌then◌else◌}
 use Rattle.i2c.specs.declared.types.Edge.{Edge}
 use Rattle.i2c.specs.declared.types.Edge.TheVariants.{Still, Start, Stop, Rise, Fall}
 use Rattle.i2c.specs.declared.types.State.{State}

@@ -6,8 +6,7 @@ use mathlib.Core.List.{List, [], ◌++◌, append_assoc, append-nil}
 use Prim.Native.Nat.{ℕ, zero, suc, ◌+◌, ◌≤◌, ◌<◌}
 use Rattle.std.proofs.Math.ListN.{length}
 use Rattle.laws.specs.Iterate.{iterate}
-use Rattle.machine.specs.Machine.{Took, Machine, Running, running, after, turn, whole, Lawful}
-use Rattle.machine.specs.Block.{block}
+use Rattle.machine.specs.Machine.{Took, Machine, Running, running, turn, whole, Lawful}
 use Rattle.machine.specs.Pieces.{Between, between, Steps, begun, brought, ended, ran, AtEnd}
 use Rattle.machine.proofs.Theorems.Turns.{Goes, stay, and_then, one, turn_at}
 use Rattle.machine.proofs.Theorems.Settles.{settle}

@@ -7,7 +7,6 @@ use Rattle.time.specs.declared.Time.{Time}
 use Rattle.calls.specs.declared.types.Call.{Call}
 use Rattle.calls.specs.declared.types.Starting.{Starting}
 use Rattle.commands.specs.declared.Command.{Command}
-use Rattle.commands.specs.declared.Command.TheVariants as Command
 use Rattle.commands.specs.Decode.{decoded, image, size, is_bad}
 use Rattle.commands.specs.Encode.{encoded, Fits}
 use Rattle.commands.proofs.Theorems.More.{size_pos}

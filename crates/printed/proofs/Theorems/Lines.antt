@@ -2,7 +2,6 @@
 use Rattle.std.specs.Prelude.{refl, Bool, List, ℕ}
 use Rattle.bma150.specs.declared.host.Bma150.{Bma150}
 use Rattle.commands.specs.declared.Command.{Command}
-use Rattle.commands.specs.declared.Command.TheVariants as Command
 use Rattle.bench.specs.Line as L
 use Rattle.printed.specs.Lines.{call_of, text_of, Prints}
 

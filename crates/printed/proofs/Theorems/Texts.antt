@@ -13,7 +13,6 @@ use Rattle.machine.specs.Machine as M
 use Rattle.machine.proofs.Theorems.Turns.{Goes, stay, and_then, turn_at}
 use Rattle.machine.proofs.Theorems.Whole.{whole_is}
 use Rattle.commands.specs.declared.Command.{Command}
-use Rattle.commands.specs.declared.Command.TheVariants as Command
 use Rattle.commands.specs.Decode.{decoded, image, size, is_bad}
 use Rattle.commands.specs.Encode.{start_byte, encoded, Fits}
 use Rattle.commands.proofs.Theorems.More.{size_pos}

@@ -13,9 +13,7 @@ use Rattle.std.proofs.Math.Seq.{take-add, length-take-le}
 use Rattle.time.specs.declared.Time.{Time}
 use Rattle.calls.specs.declared.types.Timed.TheVariants as Timed
 use Rattle.calls.specs.declared.types.Starting.{Starting}
-use Rattle.calls.specs.declared.types.Starting.TheVariants as Starting
 use Rattle.commands.specs.declared.Command.{Command}
-use Rattle.commands.specs.declared.Command.TheVariants as Command
 use Rattle.commands.specs.Decode.{part, number_at, signed, moment_at, byte_at, bit, levels, timed, start, image, accelerations, temperature, supply, due, select, rising, falling, pins, stored_image, view, decode_from_0c, decode_06_to_0b, decode_01_to_05, decoded, timed_size, call_size, size, is_bad}
 use Rattle.commands.specs.Encode.{start_byte, bytes, time_bytes, complement, weighed, lines_byte, timed_bytes, call_bytes, encoded, TimeFits, SignedFits, TimedFits, CallFits, Fits}
 use Rattle.commands.proofs.Theorems.Laws.{number_more, part_more}

@@ -1,5 +1,5 @@
 -- A pair is held until its high byte is read: no other read changes its high byte.
-use Rattle.std.specs.Prelude.{◌≡◌, refl, Bool, true, false, List, [], ◌∷◌, ℕ, ◌+◌, ◌-◌, ◌*◌, ◌%◌, ◌<◌, leb, eqb, get_or, set}
+use Rattle.std.specs.Prelude.{◌≡◌, refl, Bool, true, false, List, [], ◌∷◌, ℕ, ◌+◌, ◌*◌, ◌%◌, ◌<◌, leb, eqb, get_or, set}
 use Rattle.std.proofs.Common.{sym, ◌∙◌, arith, length-set, get_or-set_other}
 use borrow.Author.Tests.{leb-true, eqb-true, eqb-false}
 use Rattle.laws.specs.Bools.{and_left}

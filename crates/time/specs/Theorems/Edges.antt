@@ -6,7 +6,7 @@ use Rattle.std.proofs.Math.Arith.{digits_lt}
 use Rattle.laws.specs.Iterate.{iterate}
 use Rattle.time.specs.declared.Time.{Time}
 use Rattle.time.specs.declared.Clock.{Clock}
-use Rattle.time.specs.Time.{ticks, time}
+use Rattle.time.specs.Time.{ticks}
 use Rattle.time.specs.Clock.{edge_ticks, edge, started, advanced, last, edges_before}
 use Rattle.time.specs.Theorems.Laws.{ticks_time_below, ticks_fits}
 

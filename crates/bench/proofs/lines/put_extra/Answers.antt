@@ -1,9 +1,8 @@
 use native.Mathlib.Omega.{arith}
-use Rattle.machine.proofs.Theorems.Put.{none, ◌then◌, says}
+use Rattle.machine.proofs.Theorems.Put.{◌then◌, says}
 use Rattle.bench.specs.Text.{image_text}
 use Rattle.bench.specs.Theorems.Text.{length_hexes}
 use Rattle.bench.specs.Line.{extra_adds, added_text}
-use borrow.Author.Rules.{rules}
 use Rattle.bench.proofs.lines.put_extra.Goals as goal
 
 pub returns-in-Viewed-clause-put : goal.returns-in-Viewed-clause-put

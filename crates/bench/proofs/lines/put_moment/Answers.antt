@@ -1,8 +1,6 @@
-use native.Mathlib.Omega.{arith}
 use Rattle.machine.proofs.Theorems.Put.{◌then◌, says}
 use Rattle.bench.specs.Text.{moment_text}
 use Rattle.deadlines.specs.Deadlines.{moment}
-use borrow.Author.Rules.{rules}
 use Rattle.bench.proofs.lines.put_moment.Goals as goal
 
 pub returns-in-At-clause-put : goal.returns-in-At-clause-put

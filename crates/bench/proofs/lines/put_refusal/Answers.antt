@@ -1,8 +1,6 @@
-use native.Mathlib.Omega.{arith}
 use Rattle.machine.proofs.Theorems.Put.{says}
 use Rattle.bench.specs.Text.{word}
 use Rattle.calls.specs.Table.{refusal_number}
-use borrow.Author.Rules.{rules}
 use Rattle.bench.proofs.lines.put_refusal.Goals as goal
 
 pub returns-in-ImageLength-clause-put : goal.returns-in-ImageLength-clause-put

@@ -1,8 +1,6 @@
 use mathlib.Core.Path.{refl}
-use native.Mathlib.Omega.{arith}
 use Rattle.machine.proofs.Theorems.Put.{◌then◌, says}
 use Rattle.bench.specs.Line.{line}
-use borrow.Author.Rules.{rules}
 use Rattle.bench.proofs.lines.write_line.Goals as goal
 
 pub returns-clause-put : goal.returns-clause-put

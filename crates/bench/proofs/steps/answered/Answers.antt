@@ -8,7 +8,6 @@ use Rattle.bma150.proofs.Theorems.Added.{reported_is}
 use Rattle.bench.specs.declared.types.Extra.{Extra}
 use Rattle.bench.specs.declared.types.Extra.TheVariants as Extra'
 use Rattle.bench.specs.Line.{extra_adds}
-use borrow.Author.Rules.{rules}
 use Rattle.bench.proofs.steps.answered.Goals as goal
 
 pub returns : goal.returns

@@ -1,11 +1,8 @@
-use Rattle.calls.specs.Table.{number, refusal_number}
 use native.Mathlib.Omega.{arith}
 use Prim.Native.Nat.{◌-◌, ◌≤◌}
 use lib.ListN.{length, length-drop}
 use Rattle.commands.proofs.Theorems.More.{image_there}
-use Rattle.bench.specs.Line.{commanded}
 use mathlib.Core.Path.{sym, ◌∙◌}
-use borrow.Author.Rules.{rules}
 use Rattle.bench.proofs.steps.serve.Goals as goal
 
 pub start-requires : goal.start-requires

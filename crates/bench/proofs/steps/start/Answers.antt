@@ -10,7 +10,6 @@ use Rattle.commands.specs.declared.Command.TheVariants as Command
 use Rattle.calls.specs.Table.{number}
 use Rattle.bench.specs.Line.{commanded}
 use mathlib.Core.Path.{sym, ◌∙◌}
-use borrow.Author.Rules.{rules}
 use Rattle.bench.proofs.steps.start.Goals as goal
 
 image_is : (at : ℕ) (l : List ℕ) → take (at + 32 - (at + 13)) (drop (at + 13) l) ≡ image (drop at l)

@@ -1,13 +1,11 @@
 use Rattle.bench.proofs.Laws.{called_is, extra_unless, wrong_buffer}
 use lib.ListN.{replicate}
 use Rattle.bench.specs.declared.types.Extra.{Extra}
-use Rattle.bench.specs.declared.types.Extra.TheVariants as Extra
 use Rattle.bench.specs.Line.{extra_adds}
 use mathlib.Core.Path.{ap}
-use Rattle.calls.specs.Table.{number, refusal_number, unless_refused}
+use Rattle.calls.specs.Table.{number, refusal_number}
 use Rattle.bma150.proofs.Theorems.Added.{buffer_is, image_leaves}
 use mathlib.Core.Path.{◌∙◌}
-use borrow.Author.Rules.{rules}
 use Rattle.bench.proofs.steps.stored_image.Goals as goal
 
 pub returns-then-length-ne19 : goal.returns-then-length-ne19

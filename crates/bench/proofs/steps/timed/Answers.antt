@@ -7,7 +7,6 @@ use Rattle.bma150.proofs.Theorems.Added.{reported_is}
 use Rattle.bench.specs.declared.types.Extra.{Extra}
 use Rattle.bench.specs.Line.{extra_adds}
 use mathlib.Core.Path.{◌∙◌}
-use borrow.Author.Rules.{rules}
 use Rattle.bench.proofs.steps.timed.Goals as goal
 
 pub returns : goal.returns

@@ -4,7 +4,6 @@ use Rattle.calls.specs.Table.{number}
 use Rattle.calls.proofs.Theorems.Left.{view_accepted}
 use Rattle.bma150.proofs.Theorems.Added.{view_leaves}
 use mathlib.Core.Path.{sym}
-use borrow.Author.Rules.{rules}
 use Rattle.bench.proofs.steps.view.Goals as goal
 
 pub returns : goal.returns

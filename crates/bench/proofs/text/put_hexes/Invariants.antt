@@ -1,13 +1,8 @@
-use borrow.Author.Rules.{rules}
-use native.Mathlib.Omega.{arith}
-use mathlib.Core.Path.{◌≡◌, ap}
+use mathlib.Core.Path.{◌≡◌}
 use Prim.Native.Nat.{◌+◌, ◌-◌, ◌≤◌}
 use lib.ListN.{length, take}
-use lib.Seq.{take_all}
 use Rattle.machine.specs.Put.{Put}
-use Rattle.machine.proofs.Theorems.Put.{none, ◌then◌, says}
 use Rattle.bench.specs.Text.{hexes}
-use Rattle.bench.specs.Theorems.Text.{one_more_hex}
 use Rattle.bench.proofs.text.put_hexes.Given as goal
 
 abbrev pub invariant-loop-i : goal.invariant-loop-i

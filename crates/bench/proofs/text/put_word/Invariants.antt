@@ -1,11 +1,7 @@
-use borrow.Author.Rules.{rules}
-use native.Mathlib.Omega.{arith}
 use mathlib.Core.Path.{◌≡◌}
 use Prim.Native.Nat.{◌+◌, ◌-◌, ◌≤◌}
 use lib.ListN.{length, take}
-use lib.Seq.{take_all}
 use Rattle.machine.specs.Put.{Put}
-use Rattle.machine.proofs.Theorems.Put.{none, ◌then◌, says, one_more}
 use Rattle.bench.proofs.text.put_word.Given as goal
 
 abbrev pub invariant-loop-i : goal.invariant-loop-i

@@ -1,9 +1,6 @@
 use Prim.Native.Nat.{◌≤◌, ◌-◌}
-use mathlib.Core.Path.{◌≡◌, refl, sym, ◌∙◌}
-use native.Mathlib.Omega.{arith}
-use borrow.Author.Rules.{rules}
-use lib.ListN.{length, take, get_or, length-set}
-use Rattle.bma150.proofs.Copies.{copied_on, copied_all}
+use mathlib.Core.Path.{◌≡◌}
+use lib.ListN.{length, take}
 use Rattle.bma150.proofs.host.hand_out.Given as goal
 
 abbrev pub invariant-loop-i : goal.invariant-loop-i

@@ -1,7 +1,6 @@
 use Rattle.calls.proofs.Theorems.Left.{accepted_is, refused_is, start_length}
 use Rattle.bma150.specs.Called.{after_start}
 use mathlib.Core.Path.{sym, ◌∙◌}
-use borrow.Author.Rules.{rules}
 use Rattle.bma150.proofs.host.started.Goals as goal
 
 pub image_of-bytes-requires : goal.image_of-bytes-requires

@@ -1,7 +1,6 @@
 use Rattle.calls.proofs.Theorems.Values.{refused_number}
 use Rattle.calls.specs.Table.{number}
 use mathlib.Core.Path.{sym}
-use borrow.Author.Rules.{rules}
 use Rattle.calls.proofs.table.is_accepted.Goals as goal
 
 pub returns-in-Refused : goal.returns-in-Refused

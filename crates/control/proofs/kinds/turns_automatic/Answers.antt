@@ -1,6 +1,5 @@
 use mathlib.Core.Path.{◌≡◌, refl, sym, ◌∙◌}
 use mathlib.Core.Bool.{Bool, true, false, not, xor}
-use borrow.Author.Rules.{rules}
 use Rattle.control.proofs.kinds.turns_automatic.Goals as goal
 
 xor-true : (b : Bool) → not b ≡ xor true b

@@ -1,6 +1,5 @@
 use Rattle.deadlines.proofs.Theorems.Earliest.{sooner_never}
 use Rattle.deadlines.specs.Deadlines.{earliest, first}
-use borrow.Author.Rules.{rules}
 use Rattle.deadlines.proofs.Deadlines.earliest.Goals as goal
 
 pub returns : goal.returns

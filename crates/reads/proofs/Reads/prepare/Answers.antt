@@ -1,9 +1,5 @@
-use borrow.Author.Tests.{not-true, not-false}
 use Rattle.reads.specs.Theorems.Pairs.{axis_lt}
-use Rattle.reads.specs.Reads.{prepared, high_byte}
 use mathlib.Core.Path.{sym, ◌∙◌}
-use borrow.Author.Tests.{eq-eqb, ne_eqb}
-use borrow.Author.Rules.{rules}
 use Rattle.reads.proofs.Reads.prepare.Goals as goal
 
 pub prepare_low-requires : goal.prepare_low-requires

@@ -1,8 +1,5 @@
-use borrow.Author.Tests.{not-true, not-false}
 use Rattle.reads.specs.Theorems.Pairs.{axis_lt}
-use Rattle.reads.specs.Reads.{read_began}
 use mathlib.Core.Path.{sym, ◌∙◌}
-use borrow.Author.Rules.{rules}
 use Rattle.reads.proofs.Reads.read_began.Goals as goal
 
 pub hold-requires : goal.hold-requires

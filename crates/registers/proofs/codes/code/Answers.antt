@@ -10,7 +10,6 @@ use mir.ValLaws.{to_z_pos, to_z-of_z}
 use Rattle.laws.specs.Signed.{back, holds, of_fits, reach_quot, reach_pos}
 use Rattle.registers.specs.Codes.{range_g, code}
 use Rattle.registers.proofs.Laws.{within, code_above, code_below, range_within, r1, r2, r3, r4}
-use borrow.Author.Rules.{rules}
 use Rattle.registers.proofs.codes.code.Goals as goal
 
 pub returns-then-acceleration-ltminus1000000000000 : goal.returns-then-acceleration-ltminus1000000000000

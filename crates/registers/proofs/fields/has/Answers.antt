@@ -1,9 +1,7 @@
 use lib.Pow.{pow_mono}
-use Prim.Native.Nat.{◌/◌, ◌^◌, ◌≤◌}
+use Prim.Native.Nat.{◌^◌, ◌≤◌}
 use native.Mathlib.Nat.{div-eq_of_lt}
 use native.Mathlib.Omega.{arith}
-use lib.Bits.{and_mask}
-use borrow.Author.Rules.{rules}
 use Rattle.registers.proofs.fields.has.Goals as goal
 
 pub returns-then-k-gt7 : goal.returns-then-k-gt7

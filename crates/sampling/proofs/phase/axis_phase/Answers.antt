@@ -5,8 +5,8 @@ use lib.Dec.{eqb}
 use Rattle.sampling.specs.declared.types.Input.{Input}
 use Rattle.sampling.specs.declared.types.Test.{Test}
 use Rattle.sampling.specs.declared.types.Test.TheVariants.{Off}
-use mathlib.Core.Path.{◌≡◌, ap, ◌∙◌}
-use borrow.Author.Tests.{eq-eqb, ne_eqb}
+use mathlib.Core.Path.{◌≡◌}
+use borrow.Author.Tests.{eq-eqb}
 use Rattle.sampling.specs.declared.types.Acquisition.{Acquisition}
 use Rattle.sampling.specs.Phase.{axis_phase, scanned, observed, counted, measured}
 use borrow.Author.Rules.{rules}

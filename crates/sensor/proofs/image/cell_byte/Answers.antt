@@ -1,8 +1,6 @@
 use Rattle.sensor.proofs.Laws.{stored_from, stored_to}
 use native.Mathlib.Omega.{arith}
-use Rattle.sensor.specs.Image.{cell_byte}
 use mathlib.Core.Path.{sym, ◌∙◌}
-use borrow.Author.Rules.{rules}
 use Rattle.sensor.proofs.image.cell_byte.Goals as goal
 
 pub overflow_sub-result : goal.overflow_sub-result

@@ -1,8 +1,5 @@
-use Prim.Native.Nat.{ℕ, ◌≤◌, ◌-◌}
-use mathlib.Core.Path.{◌≡◌, ap, ◌∙◌}
 use native.Mathlib.Omega.{arith}
 use borrow.Author.Rules.{rules}
-use lib.Seq.{paste, paste-zero}
 use Rattle.sensor.proofs.Laws.{pasted}
 use Rattle.sensor.proofs.image.image_copied.Goals as goal
 

@@ -1,8 +1,6 @@
 use Rattle.sensor.proofs.Laws.{stored_from, stored_to}
 use native.Mathlib.Omega.{arith}
-use Rattle.sensor.specs.Image.{with_cell}
 use mathlib.Core.Path.{sym, ◌∙◌}
-use borrow.Author.Rules.{rules}
 use Rattle.sensor.proofs.image.with_cell.Goals as goal
 
 pub overflow_sub-i : goal.overflow_sub-i

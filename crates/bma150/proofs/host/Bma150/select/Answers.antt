@@ -1,7 +1,6 @@
 use Rattle.calls.proofs.Theorems.Left.{select_accepted}
 use Rattle.calls.specs.Table.{unless_refused}
 use Rattle.bma150.specs.Called.{leaves}
-use borrow.Author.Rules.{rules}
 use Rattle.bma150.proofs.host.Bma150.select.Goals as goal
 
 pub returns : goal.returns

@@ -1,10 +1,8 @@
 use Rattle.calls.proofs.Theorems.Left.{buffer_length}
-use Rattle.calls.specs.Table.{refusal, unless_refused}
-use Rattle.samples.specs.Samples.{interaction_deadline}
+use Rattle.calls.specs.Table.{unless_refused}
 use Rattle.bma150.specs.Called.{adds}
 use Rattle.bma150.specs.Called.{put_in}
 use mathlib.Core.Path.{sym, ◌∙◌}
-use borrow.Author.Rules.{rules}
 use Rattle.bma150.proofs.host.Bma150.stored_image.Goals as goal
 
 pub hand_out-requires : goal.hand_out-requires

@@ -3,7 +3,6 @@ use Rattle.calls.specs.Table.{unless_refused}
 use Rattle.bma150.specs.Called.{leaves}
 use mir.Syntax.{w32}
 use Rattle.laws.specs.Signed.{back, of_fits}
-use borrow.Author.Rules.{rules}
 use Rattle.bma150.proofs.host.Bma150.temperature.Goals as goal
 
 pub returns : goal.returns

@@ -8,7 +8,6 @@ use Rattle.bma150.specs.Called.{leaves, adds}
 use Rattle.bma150.specs.Values.{report_values}
 use Rattle.bma150.specs.Called.{reported}
 use mathlib.Core.Path.{◌≡◌, sym, ap, ◌∙◌}
-use borrow.Author.Rules.{rules}
 use Rattle.bma150.proofs.host.Bma150.timed.Goals as goal
 
 pub returns-then-is_accepted-clause-report_value : goal.returns-then-is_accepted-clause-report_value

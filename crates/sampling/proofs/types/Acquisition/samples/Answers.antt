@@ -1,14 +1,8 @@
-use mir.Val.{Fits}
-use mir.Syntax.{w64}
-use Prim.Native.Nat.{ℕ, ◌≤◌, ◌<◌, ◌+◌, ◌-◌, zero-le}
-use mathlib.Core.Path.{◌≡◌, refl, ap, ◌∙◌}
+use mathlib.Core.Path.{ap, ◌∙◌}
 use native.Mathlib.Omega.{arith}
 use native.Mathlib.Numerals.{add-one}
-use borrow.Author.Rules.{rules}
 use Rattle.laws.specs.Iterate.{iterate}
-use Rattle.sampling.specs.declared.types.Acquisition.{Acquisition}
-use Rattle.sampling.specs.Split.{joined}
-use Rattle.sampling.specs.Phase.{sample, samples}
+use Rattle.sampling.specs.Phase.{sample}
 use Rattle.sampling.proofs.types.Acquisition.samples.Goals as goal
 
 pub loop-preserved : goal.loop-preserved
