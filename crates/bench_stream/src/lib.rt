@@ -238,18 +238,12 @@ fn turns<R: Read, W: Write>(
 // A read or a write that failed, said on standard error.
 fn complain<E: Write>(errors: &mut E, t: Turn) {
     if t.unread {
-        flush(
-            errors,
-            b"bench: a read of standard input failed; the commands before it are answered\n",
-            76,
-        );
+        let said = b"bench: a read of standard input failed; the commands before it are answered\n";
+        flush(errors, said, said.len());
     }
     if t.unwritten {
-        flush(
-            errors,
-            b"bench: a write to standard output failed; lines are missing\n",
-            60,
-        );
+        let said = b"bench: a write to standard output failed; lines are missing\n";
+        flush(errors, said, said.len());
     }
 }
 
