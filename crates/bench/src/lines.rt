@@ -13,7 +13,7 @@ use crate::types::{Extra, Reply};
 use bma150::host::Bma150;
 use calls::types::{Outcome, Refusal};
 use deadlines::Deadline;
-use sensor::types::{Mark, View};
+use sensor::types::{Mark, Option<u8>};
 use spi::types::Drive;
 use waits::types::Report;
 
@@ -88,17 +88,17 @@ fn put_pins(out: &mut [u8; 65536], o: usize, s: Bma150) -> usize
 }
 
 #[tactic(auto, unfolding(crate::specs::Text::view_text, bma150::specs::Values::view_value))]
-fn put_view(out: &mut [u8; 65536], o: usize, v: View) -> usize
+fn put_view(out: &mut [u8; 65536], o: usize, v: Option<u8>) -> usize
     requires { o + 3 ≤ 65536 }
     ensures put { Put out.old o (T.view_text (Vals.view_value v)) out.new result }
     ensures upper_bound { result ≤ o + 3 }
 {
     match v {
-        View::Byte(b) => {
+        Some(b) => {
             let p = put(out, o, b' ');
             put_hex(out, p, b)
         }
-        View::Withheld => put_word(out, o, b" --"),
+        None => put_word(out, o, b" --"),
     }
 }
 
@@ -167,18 +167,18 @@ fn put_extra(out: &mut [u8; 65536], o: usize, x: Extra, image: &[u8; 19]) -> usi
 }
 
 #[tactic(auto, unfolding(crate::specs::Text::moment_text, deadlines::specs::Deadlines::moment))]
-fn put_moment(out: &mut [u8; 65536], o: usize, d: Deadline) -> usize
+fn put_moment(out: &mut [u8; 65536], o: usize, d: Option<Time>) -> usize
     requires { o + 33 ≤ 65536 }
     ensures put { Put out.old o (T.moment_text (moment d)) out.new result }
     ensures upper_bound { result ≤ o + 33 }
 {
     match d {
-        Deadline::At(t) => {
+        Some(t) => {
             let p1 = put_hex16(out, o, t.0);
             let p2 = put(out, p1, b' ');
             put_hex16(out, p2, t.1)
         }
-        Deadline::Never => put(out, o, b'-'),
+        None => put(out, o, b'-'),
     }
 }
 

@@ -1,6 +1,5 @@
 -- What a call leaves and answers, for all arguments.
-use Rattle.std.specs.Prelude.{ℕ, ◌-◌, Bool, false, List, [], length, get_or}
-use Rattle.std.proofs.Math.Option.{Option}
+use Rattle.std.specs.Prelude.{ℕ, ◌-◌, Bool, false, List, [], length, get_or, Option}
 use Rattle.laws.specs.Notation.{Image}
 use Rattle.time.specs.declared.Time.{Time}
 use Rattle.time.specs.Time.{time}

@@ -1,8 +1,6 @@
 -- 01's values of each answer.
-use Rattle.std.specs.Prelude.{ℕ, List, [], ◌∷◌}
-use Rattle.std.proofs.Math.Option.{Option, none, some}
+use Rattle.std.specs.Prelude.{ℕ, List, [], ◌∷◌, Option, Some, None}
 use Rattle.spi.specs.declared.types.Drive.{Drive}
-use Rattle.sensor.specs.declared.types.View.{View}
 use Rattle.sensor.specs.declared.types.Mark.{Mark}
 use Rattle.waits.specs.declared.types.Report.{Report}
 
@@ -19,12 +17,12 @@ report_values (Report.Completed address byte) = 0x43 ∷ address ∷ byte ∷ []
 report_values (Report.Cut address byte) = 0x58 ∷ address ∷ byte ∷ []
 
 -- the byte or its absence
-unfoldable pub view_value : View → Option ℕ
-view_value (View.Byte b) = some b
-view_value View.Withheld = none
+unfoldable pub view_value : Option ℕ → Option ℕ
+view_value (Some b) = Some b
+view_value None = None
 
 -- m (mean), s (single) or no mark
 unfoldable pub mark_letter : Mark → Option ℕ
-mark_letter Mark.Mean = some 0x6d
-mark_letter Mark.Single = some 0x73
-mark_letter Mark.Nothing = none
+mark_letter Mark.Mean = Some 0x6d
+mark_letter Mark.Single = Some 0x73
+mark_letter Mark.Nothing = None

@@ -295,7 +295,7 @@ impl Bma150 {
     }
 
     // Next due.
-    pub fn next_due(self) -> Deadline
+    pub fn next_due(self) -> Option<Time>
         ensures { moment result ≡ C.next_due self }
     {
         let s = self.sensor;

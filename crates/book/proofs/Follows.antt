@@ -1,4 +1,6 @@
 -- What is kept is what the accepted calls say, of every list; so the reports of a list follow on.
+use Rattle.std.specs.Prelude.{Some, None}
+use Rattle.sensor.specs.Operation.{Operation}
 use Prim.Native.Nat.{ℕ}
 use mathlib.Core.Path.{◌≡◌, refl, sym, ap, ◌∙◌}
 use mathlib.Core.Bool.{Bool, true, false, cond}
@@ -17,7 +19,6 @@ use Rattle.calls.proofs.Theorems.Found.{never}
 use Rattle.calls.proofs.Theorems.Exactly.{follows_on}
 use Rattle.calls.proofs.Theorems.Left.{accepted_is, refused_is}
 use Rattle.sensor.specs.declared.types.Kept.{Kept}
-use Rattle.sensor.specs.declared.types.Operation.{Operation}
 use Rattle.sensor.specs.declared.types.Sensor.{Sensor}
 use Rattle.sensor.specs.Record.{lines_kept}
 use Rattle.sensor.specs.Image.{new_kept}
@@ -45,18 +46,18 @@ kept_of k = k.kept
 -- neither the end nor the cut of a write changes it, nor a supply call
 ended_kept : (op : Operation) (k : Core) (now : Time) → (ended op k now).kept ≡ k.kept
 unfolding ended
-ended_kept Operation.Idle k now = refl
-ended_kept (Operation.Running w a v) k now = either kept_of (same (Cycle.deadline w) now) _ _ _ refl refl
+ended_kept None k now = refl
+ended_kept (Some (w, a, v)) k now = either kept_of (same (Cycle.deadline w) now) _ _ _ refl refl
 
 cut_kept : (op : Operation) (k : Core) (now : Time) → (cut_to op k now).kept ≡ k.kept
 unfolding cut_to
-cut_kept Operation.Idle k now = refl
-cut_kept (Operation.Running w a v) k now = refl
+cut_kept None k now = refl
+cut_kept (Some (w, a, v)) k now = refl
 
 supply_kept : (k : Core) (rail : ℕ) (now : Time) → (supply_to k rail now).kept ≡ k.kept
 supply_kept k rail now =
     either kept_of (ltb rail 2400) _ _ _
-    (either kept_of (off k) _ _ _ (either kept_of (eqb rail 0) _ _ _ refl refl) (cut_kept k.writing.operation k now))
+    (either kept_of (off k) _ _ _ (either kept_of (eqb rail 0) _ _ _ refl refl) (cut_kept k.writing k now))
     (either kept_of (off k) _ _ _ (either kept_of k.supply.cold _ _ _ refl refl) refl)
 
 timed_kept : (s : Sensor) (now : Time) (t : Timed) → (effect (sync_local_until s now false) now t).sensor.kept ≡ (timed_does now t).keeps s.kept
@@ -67,7 +68,7 @@ timed_kept s now (Timed.Supply rail) =
     ap kept_of (supply_is u rail now) ∙ supply_kept (core u) rail now ∙ ap kept_of (sync_keeps s now false).same
 timed_kept s now Timed.Due =
     let u = sync_local_until s now false in
-    ap kept_of (due_is u now) ∙ ended_kept u.writing.operation (core u) now ∙ ap kept_of (sync_keeps s now false).same
+    ap kept_of (due_is u now) ∙ ended_kept u.writing (core u) now ∙ ap kept_of (sync_keeps s now false).same
 timed_kept s now (Timed.Rising mosi) =
     let k = then (sync_keeps s now false) (rise_synced_keeps (sync_local_until s now false) now) in
     ap kept_of (rising_keeps (at_rise s now) mosi now).same ∙ ap kept_of k.same

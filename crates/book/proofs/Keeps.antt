@@ -1,4 +1,6 @@
 -- What leaves the stored bytes, the running write, the supply, what is kept and the select pin as they are.
+use Rattle.std.specs.Prelude.{Option}
+use Rattle.sensor.specs.Operation.{Operation}
 use Prim.Native.Nat.{ℕ}
 use mathlib.Core.Path.{◌≡◌, refl, ap, ◌∙◌}
 use mathlib.Core.Bool.{Bool, true, false, cond, not, ◌&&◌}
@@ -7,14 +9,11 @@ use Rattle.time.specs.declared.Time.{Time}
 use Rattle.i2c.specs.declared.types.Edge.{Edge}
 use Rattle.spi.specs.declared.types.Serial.{Serial}
 use Rattle.spi.specs.declared.types.Frame.{Frame}
-use Rattle.spi.specs.declared.types.Sent.{Sent}
 use Rattle.spi.specs.declared.types.Clocked.{Clocked}
 use Rattle.spi.specs.declared.types.Shift.{Shift}
 use Rattle.control.specs.declared.types.WriteKind.{WriteKind}
 use Rattle.sensor.specs.declared.types.Kept.{Kept}
-use Rattle.sensor.specs.declared.types.Writing.{Writing}
 use Rattle.sensor.specs.declared.types.Supply.{Supply}
-use Rattle.sensor.specs.declared.types.View.{View}
 use Rattle.sensor.specs.declared.types.Sensor.{Sensor}
 use Rattle.deadlines.specs.Deadlines.{is_at}
 use Rattle.registers.specs.Map.{at}
@@ -36,7 +35,7 @@ use Rattle.effects.specs.Theorems.Keeps as E
 
 pub record Core : Type 0 where
   pub cells : List ℕ
-  pub writing : Writing
+  pub writing : Operation
   pub supply : Supply
   pub kept : Kept
   pub selected : Bool
@@ -78,10 +77,10 @@ then_automatic_keeps WriteKind.Plain s address value now = of (E.then_automatic_
 pub sync_keeps : (s : Sensor) (end : Time) (inclusive : Bool) → Keeps s (sync_local_until s end inclusive)
 sync_keeps s end inclusive = of (E.sync_keeps s end inclusive)
 
-pub fetched_keeps : (v : View) (s : Sensor) (address : ℕ) → Keeps s (fetched v s address).sensor
+pub fetched_keeps : (v : Option ℕ) (s : Sensor) (address : ℕ) → Keeps s (fetched v s address).sensor
 fetched_keeps v s address = of (E.fetched_keeps v s address)
 
-pub byte_read_keeps : (t : Sent) (s : Sensor) (address : ℕ) → Keeps s (byte_read t s address)
+pub byte_read_keeps : (t : Option ℕ) (s : Sensor) (address : ℕ) → Keeps s (byte_read t s address)
 byte_read_keeps t s address = of (E.byte_read_keeps t s address)
 
 pub rise_synced_keeps : (s : Sensor) (now : Time) → Keeps s (rise_synced s now)
@@ -107,7 +106,7 @@ select_core s b = go s.frame.selected b refl
     go false false e = ap (λ (x : Bool). with_selected (core s) x) e
 
 -- a frame keeps its select pin
-shifted_selected : (f : Frame) (tx : Sent) → (F.shifted f tx).selected ≡ f.selected
+shifted_selected : (f : Frame) (tx : Option ℕ) → (F.shifted f tx).selected ≡ f.selected
 unfolding F.moved
 shifted_selected f tx = go f.serial
   where

@@ -1,4 +1,5 @@
 -- No axis of the stage runs ahead, over every list: by induction over the calls.
+use Rattle.std.specs.Prelude.{Option, Some}
 use Prim.Native.Nat.{◌≤◌}
 use native.Mathlib.Nat.{le_trans}
 use native.Mathlib.Omega.{arith}
@@ -12,7 +13,6 @@ use Rattle.time.specs.Time.{ticks, time}
 use Rattle.analog.specs.declared.types.Analog.{Analog}
 use Rattle.calls.specs.declared.types.Timed.{Timed}
 use Rattle.calls.specs.declared.types.Call.{Call}
-use Rattle.calls.specs.declared.types.Dated.{Dated}
 use Rattle.calls.specs.Facts.{timed_facts, facts}
 use Rattle.calls.specs.Table as T
 use Rattle.calls.proofs.Theorems.Left.{clear, accepted_is, refused_is}
@@ -35,7 +35,7 @@ Stands s = Upto s.last s.sensor.sampling.analog
 
 -- ---- one call
 
-dated : (now : Time) (t : Timed) → (timed_facts now t).time ≡ Dated.At now
+dated : (now : Time) (t : Timed) → (timed_facts now t).time ≡ Some now
 unfolding timed_facts
 dated now (Timed.Accelerations x y z) = refl
 dated now (Timed.Supply rail) = refl
@@ -49,7 +49,7 @@ not_back : (s : Bma150) (now : Time) (t : Timed) → accepts s (Call.At now t) �
 unfolding facts T.goes_back
 not_back s now t p =
     let q = clear s.last (interaction_deadline s.sensor) s.sensor.kept.lines (Call.At now t) p in
-    ltb-false (ticks now) (ticks s.last) (sym (ap (λ (d : Dated). T.goes_back s.last d) (dated now t)) ∙ q.1.1.0)
+    ltb-false (ticks now) (ticks s.last) (sym (ap (λ (d : Option Time). T.goes_back s.last d) (dated now t)) ∙ q.1.1.0)
 
 -- the last accepted time never goes back
 not_before : (s : Bma150) (c : Call) → accepts s c ≡ true → ticks s.last ≤ ticks (leaves s c).last

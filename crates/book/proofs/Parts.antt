@@ -1,4 +1,6 @@
 -- What a due call and a supply call do to the five parts.
+use Rattle.std.specs.Prelude.{Some, None}
+use Rattle.sensor.specs.Operation.{Operation}
 use Prim.Native.Nat.{ℕ}
 use mathlib.Core.Path.{◌≡◌, refl, ap, ◌∙◌}
 use mathlib.Core.Bool.{Bool, true, false, cond}
@@ -8,9 +10,7 @@ use Rattle.time.specs.declared.Time.{Time}
 use Rattle.time.specs.Time.{same}
 use Rattle.nv.specs.Cell.{cell_number}
 use Rattle.nv.specs.Cycle as Cycle
-use Rattle.deadlines.specs.declared.Deadline.TheVariants.{At, Never}
 use Rattle.deadlines.specs.Deadlines.{is_set}
-use Rattle.sensor.specs.declared.types.Operation.{Operation}
 use Rattle.sensor.specs.declared.types.Supply.{Supply}
 use Rattle.sensor.specs.declared.types.Sensor.{Sensor}
 use Rattle.sensor.specs.Record.{is_off}
@@ -28,7 +28,7 @@ supplied_by k x = record { cells = k.cells; writing = k.writing; supply = x; kep
 
 -- a write is over, with these cells
 abbrev pub over : Core → List ℕ → Core
-over k cells = record { cells = cells; writing = record { operation = Operation.Idle }; supply = k.supply; kept = k.kept; selected = k.selected }
+over k cells = record { cells = cells; writing = None; supply = k.supply; kept = k.kept; selected = k.selected }
 
 abbrev pub off : Core → Bool
 off k = is_set k.supply.unpowered_since
@@ -36,42 +36,42 @@ off k = is_set k.supply.unpowered_since
 -- ---- due
 
 unfoldable pub ended : Operation → Core → Time → Core
-ended Operation.Idle k now = k
-ended (Operation.Running w a v) k now = cond (same (Cycle.deadline w) now) (over k (with_cell k.cells a v)) k
+ended None k now = k
+ended (Some (w, a, v)) k now = cond (same (Cycle.deadline w) now) (over k (with_cell k.cells a v)) k
 
 ended_is : (op : Operation) (s : Sensor) (now : Time) → core (write_ended op s now).sensor ≡ ended op (core s) now
 unfolding write_ended ended
-ended_is Operation.Idle s now = refl
-ended_is (Operation.Running w a v) s now = go (same (Cycle.deadline w) now)
+ended_is None s now = refl
+ended_is (Some (w, a, v)) s now = go (same (Cycle.deadline w) now)
   where
     go : (b : Bool) → core (cond b (completed s a v) (without_report s)).sensor ≡ cond b (over (core s) (with_cell s.nonvolatile a v)) (core s)
     go true = refl
     go false = refl
 
-pub due_is : (s : Sensor) (now : Time) → core (at_deadline s now).sensor ≡ ended s.writing.operation (core s) now
+pub due_is : (s : Sensor) (now : Time) → core (at_deadline s now).sensor ≡ ended s.writing (core s) now
 due_is s now =
     let p = pause_ended (waits_ended s now) now in
-    (scalars_keeps (write_ended p.writing.operation p now).sensor now (criterion s) (hold_ends_now s now)).same
-    ∙ ended_is p.writing.operation p now
-    ∙ ap (λ (k : Core). ended k.writing.operation k now) (waits_keeps s now).same
+    (scalars_keeps (write_ended p.writing p now).sensor now (criterion s) (hold_ends_now s now)).same
+    ∙ ended_is p.writing p now
+    ∙ ap (λ (k : Core). ended k.writing k now) (waits_keeps s now).same
 
 -- ---- supply
 
 unfoldable pub cut_to : Operation → Core → Time → Core
-cut_to Operation.Idle k now = k
-cut_to (Operation.Running w a v) k now = over k (with_cell k.cells a (Cycle.byte_at w (cell_byte k.cells a) v (cell_number a) now))
+cut_to None k now = k
+cut_to (Some (w, a, v)) k now = over k (with_cell k.cells a (Cycle.byte_at w (cell_byte k.cells a) v (cell_number a) now))
 
 abbrev pub lost : Core → Time → Bool → Core
-lost k now cold = supplied_by (with_selected (cut_to k.writing.operation k now) false) (record { unpowered_since = At now; cold = cold })
+lost k now cold = supplied_by (with_selected (cut_to k.writing k now) false) (record { unpowered_since = Some now; cold = cold })
 
 abbrev pub emptied : Core → Core
 emptied k = supplied_by k (record { unpowered_since = k.supply.unpowered_since; cold = true })
 
 abbrev pub cold_again : Core → Core
-cold_again k = record { cells = k.cells; writing = record { operation = Operation.Idle }; supply = record { unpowered_since = Never; cold = false }; kept = k.kept; selected = false }
+cold_again k = record { cells = k.cells; writing = None; supply = record { unpowered_since = None; cold = false }; kept = k.kept; selected = false }
 
 abbrev pub warm_again : Core → Core
-warm_again k = supplied_by k (record { unpowered_since = Never; cold = k.supply.cold })
+warm_again k = supplied_by k (record { unpowered_since = None; cold = k.supply.cold })
 
 abbrev pub supply_to : Core → ℕ → Time → Core
 supply_to k rail now =
@@ -81,15 +81,15 @@ supply_to k rail now =
 
 cut_is : (op : Operation) (s : Sensor) (now : Time) → core (cut op s now).sensor ≡ cut_to op (core s) now
 unfolding cut cut_to
-cut_is Operation.Idle s now = refl
-cut_is (Operation.Running w a v) s now = refl
+cut_is None s now = refl
+cut_is (Some (w, a, v)) s now = refl
 
 lost_is : (s : Sensor) (now : Time) (cold : Bool) → core (power_off s now cold).sensor ≡ lost (core s) now cold
 unfolding may_select
 lost_is s now cold =
-    let c = (cut s.writing.operation (held s now) now).sensor in
-    ap (λ (k : Core). supplied_by k (record { unpowered_since = At now; cold = cold }))
-    (select_core c false ∙ ap (λ (k : Core). with_selected k false) (cut_is s.writing.operation (held s now) now))
+    let c = (cut s.writing (held s now) now).sensor in
+    ap (λ (k : Core). supplied_by k (record { unpowered_since = Some now; cold = cold }))
+    (select_core c false ∙ ap (λ (k : Core). with_selected k false) (cut_is s.writing (held s now) now))
 
 emptied_is : (s : Sensor) (zero : Bool) → core (zero_while_off s zero) ≡ cond zero (emptied (core s)) (core s)
 unfolding zero_while_off

@@ -1,4 +1,7 @@
 -- What holds of every sensor of a list, and what acceptance says of a running write's end.
+use Rattle.std.specs.Prelude.{Some, None, ℤ}
+use Rattle.sensor.specs.Operation.{Operation}
+use Rattle.i2c.specs.declared.types.Levels.{Levels}
 use Prim.Native.Nat.{ℕ, ◌+◌, ◌*◌, ◌^◌, ◌≤◌, ◌<◌}
 use native.Mathlib.Omega.{arith}
 use native.Mathlib.Nat.{le_antisymm}
@@ -15,11 +18,8 @@ use Rattle.time.specs.Theorems.Laws.{ticks_time_below}
 use Rattle.nv.specs.Cell.{write_length}
 use Rattle.nv.specs.Cycle as Cycle
 use Rattle.nv.specs.declared.WriteCycle.{WriteCycle}
-use Rattle.deadlines.specs.declared.Deadline.{Deadline}
-use Rattle.deadlines.specs.declared.Deadline.TheVariants.{At, Never}
 use Rattle.deadlines.specs.Deadlines.{is_at, is_by, earliest}
 use Rattle.deadlines.proofs.Theorems.Earliest.{earliest_by_each}
-use Rattle.sensor.specs.declared.types.Operation.{Operation}
 use Rattle.sensor.specs.declared.types.Sensor.{Sensor}
 use Rattle.sensor.specs.Record.{with_writing, is_off, automatic}
 use Rattle.sensor.specs.Record as Record
@@ -27,10 +27,6 @@ use Rattle.samples.specs.Samples.{write_end, sample_due, next_deadline, interact
 use Rattle.calls.specs.Table as T
 use Rattle.calls.specs.declared.types.Call.{Call}
 use Rattle.calls.specs.declared.types.Kind.TheVariants as Kind
-use Rattle.calls.specs.declared.types.Dated.TheVariants as Dated
-use Rattle.calls.specs.declared.types.Bytes.TheVariants as Bytes
-use Rattle.calls.specs.declared.types.Axes.{Axes}
-use Rattle.calls.specs.declared.types.Lines.{Lines}
 use Rattle.calls.specs.declared.types.Facts.{Facts}
 use Rattle.calls.specs.Facts.{at, facts}
 use Rattle.calls.proofs.Theorems.Left.{clear}
@@ -43,16 +39,16 @@ use Rattle.book.proofs.Parts.{off}
 -- ---- a sensor as a book
 
 unfoldable pub running_of : Operation → Option Running
-running_of Operation.Idle = none
-running_of (Operation.Running w a v) = some (record { address = a; wanted = v; began = w.started })
+running_of None = none
+running_of (Some (w, a, v)) = some (record { address = a; wanted = v; began = w.started })
 
 abbrev pub read : Bma150 → Book
-read s = book s.sensor.nonvolatile (running_of s.sensor.writing.operation) (struck s)
+read s = book s.sensor.nonvolatile (running_of s.sensor.writing) (struck s)
 
 operation_running : (op : Operation) → operation (running_of op) ≡ op
 unfolding operation running_of
-operation_running Operation.Idle = refl
-operation_running (Operation.Running w a v) = refl
+operation_running None = refl
+operation_running (Some (w, a, v)) = refl
 
 pub running_operation : (r : Option Running) → running_of (operation r) ≡ r
 unfolding operation running_of
@@ -61,20 +57,20 @@ running_operation (some w) = refl
 
 pub runs_running : (op : Operation) → B.runs (running_of op) ≡ Record.runs op
 unfolding B.runs Record.runs running_of
-runs_running Operation.Idle = refl
-runs_running (Operation.Running w a v) = refl
+runs_running None = refl
+runs_running (Some (w, a, v)) = refl
 
 pub filled_read : (s : Bma150) → filled (read s) ≡ s
-filled_read s = ap (λ (o : Operation). record { sensor = with_writing s.sensor (record { operation = o }); last = s.last }) (operation_running s.sensor.writing.operation)
+filled_read s = ap (λ (o : Operation). record { sensor = with_writing s.sensor (o); last = s.last }) (operation_running s.sensor.writing)
 
 -- ---- what holds of every sensor of a list: a write runs only with supply and its end does not wrap; with supply nothing cold is due; without it SPI is deselected
 
 abbrev pub Fine : Operation → Bool → Type 0
-Fine Operation.Idle out = Unit {0}
-Fine (Operation.Running w a v) out = (out ≡ false) × (ticks w.started + write_length < 2 ^ 128)
+Fine None out = Unit {0}
+Fine (Some (w, a, v)) out = (out ≡ false) × (ticks w.started + write_length < 2 ^ 128)
 
 pub record Sound (k : Core) : Type 0 where
-  pub fine : Fine k.writing.operation (off k)
+  pub fine : Fine k.writing (off k)
   pub warm : off k ≡ false → k.supply.cold ≡ false
   pub deaf : off k ≡ true → k.selected ≡ false
 
@@ -83,21 +79,21 @@ pub record Sound (k : Core) : Type 0 where
 abbrev end_of : WriteCycle → ℕ
 end_of w = ticks w.started + write_length
 
-ends_by : (s : Sensor) (w : WriteCycle) (a v : ℕ) → s.writing.operation ≡ Operation.Running w a v → is_off s ≡ false
+ends_by : (s : Sensor) (w : WriteCycle) (a v : ℕ) → s.writing ≡ Some (w, a, v) → is_off s ≡ false
     → is_by (interaction_deadline s) (Cycle.deadline w) ≡ true
 unfolding next_deadline write_end
-ends_by s w a v e o = go (is_off s) (earliest s.deadlines (sample_due s (automatic s)) (write_end s.writing.operation)) o p
+ends_by s w a v e o = go (is_off s) (earliest s.deadlines (sample_due s (automatic s)) (write_end s.writing)) o p
   where
-    go : (b : Bool) (d : Deadline) → b ≡ false → is_by d (Cycle.deadline w) ≡ true → is_by (cond b Never d) (Cycle.deadline w) ≡ true
+    go : (b : Bool) (d : Option Time) → b ≡ false → is_by d (Cycle.deadline w) ≡ true → is_by (cond b None d) (Cycle.deadline w) ≡ true
     go true d q r = cc
     go false d q r = r
 
-    m : Memᴰ (At (Cycle.deadline w)) (s.deadlines.serial_ready ∷ sample_due s (automatic s) ∷ s.deadlines.wake ∷ s.deadlines.pause ∷ s.deadlines.quiet ∷ s.deadlines.irq_hold ∷ At (Cycle.deadline w) ∷ s.deadlines.image ∷ [])
+    m : Memᴰ (Some (Cycle.deadline w)) (s.deadlines.serial_ready ∷ sample_due s (automatic s) ∷ s.deadlines.wake ∷ s.deadlines.pause ∷ s.deadlines.quiet ∷ s.deadlines.irq_hold ∷ Some (Cycle.deadline w) ∷ s.deadlines.image ∷ [])
     m = Memᴰ.tail (Memᴰ.tail (Memᴰ.tail (Memᴰ.tail (Memᴰ.tail (Memᴰ.tail (Memᴰ.head refl))))))
 
-    p : is_by (earliest s.deadlines (sample_due s (automatic s)) (write_end s.writing.operation)) (Cycle.deadline w) ≡ true
+    p : is_by (earliest s.deadlines (sample_due s (automatic s)) (write_end s.writing)) (Cycle.deadline w) ≡ true
     p = ap (λ (o : Operation). is_by (earliest s.deadlines (sample_due s (automatic s)) (write_end o)) (Cycle.deadline w)) e
-        ∙ earliest_by_each s.deadlines (sample_due s (automatic s)) (At (Cycle.deadline w)) (Cycle.deadline w) m
+        ∙ earliest_by_each s.deadlines (sample_due s (automatic s)) (Some (Cycle.deadline w)) (Cycle.deadline w) m
 
 lt_le : (n d t e : ℕ) → d ≤ t → n < d → t ≡ e → n < e
 lt_le n d t e p q r = omega arith
@@ -106,25 +102,25 @@ eq_le : (n d t e : ℕ) → d ≤ t → d ≡ n → t ≡ e → n ≤ e
 eq_le n d t e p q r = omega arith
 
 -- not by now, but by t: now is before t
-before : (d : Deadline) (t now : Time) (e : ℕ) → is_by d t ≡ true → is_by d now ≡ false → ticks t ≡ e → ticks now < e
+before : (d : Option Time) (t now : Time) (e : ℕ) → is_by d t ≡ true → is_by d now ≡ false → ticks t ≡ e → ticks now < e
 unfolding is_by
-before Never t now e p q r = absurd (let z : ◌≡◌ {A = ℕ} 0 1 = cc in omega arith)
-before (At u) t now e p q r = lt_le (ticks now) (ticks u) (ticks t) e (leb-true (ticks u) (ticks t) p) (leb-false (ticks u) (ticks now) q) r
+before None t now e p q r = absurd (let z : ◌≡◌ {A = ℕ} 0 1 = cc in omega arith)
+before (Some u) t now e p q r = lt_le (ticks now) (ticks u) (ticks t) e (leb-true (ticks u) (ticks t) p) (leb-false (ticks u) (ticks now) q) r
 
 -- at now, and by t: now is at t or before it
-until : (d : Deadline) (t now : Time) (e : ℕ) → is_by d t ≡ true → is_at d now ≡ true → ticks t ≡ e → ticks now ≤ e
+until : (d : Option Time) (t now : Time) (e : ℕ) → is_by d t ≡ true → is_at d now ≡ true → ticks t ≡ e → ticks now ≤ e
 unfolding is_by is_at
-until Never t now e p q r = absurd (let z : ◌≡◌ {A = ℕ} 0 1 = cc in omega arith)
-until (At u) t now e p q r = eq_le (ticks now) (ticks u) (ticks t) e (leb-true (ticks u) (ticks t) p) (eqb-true (ticks u) (ticks now) q) r
+until None t now e p q r = absurd (let z : ◌≡◌ {A = ℕ} 0 1 = cc in omega arith)
+until (Some u) t now e p q r = eq_le (ticks now) (ticks u) (ticks t) e (leb-true (ticks u) (ticks t) p) (eqb-true (ticks u) (ticks now) q) r
 
 -- ---- an accepted call other than the due call completes no write in the book
 pub not_over : (s : Bma150) → Sound (core s.sensor) → (now : Time) → is_by (interaction_deadline s.sensor) now ≡ false → completed (read s) now ≡ read s
 unfolding completing running_of
-not_over s h now d = go s.sensor.writing.operation refl
+not_over s h now d = go s.sensor.writing refl
   where
-    go : (op : Operation) → s.sensor.writing.operation ≡ op → completing (running_of op) (read s) now ≡ read s
-    go Operation.Idle e = refl
-    go (Operation.Running w a v) e =
+    go : (op : Operation) → s.sensor.writing ≡ op → completing (running_of op) (read s) now ≡ read s
+    go None e = refl
+    go (Some (w, a, v)) e =
         let f : (is_off s.sensor ≡ false) × (end_of w < 2 ^ 128) = subst (λ (o : Operation). Fine o (is_off s.sensor)) e h.fine in
         let l : ticks now < end_of w = before (interaction_deadline s.sensor) (Cycle.deadline w) now (end_of w) (ends_by s.sensor w a v e f.0) d (ticks_time_below (end_of w) f.1) in
         ap (λ (b : Bool). cond b (closed (read s) (record { address = a; wanted = v; began = w.started }) v) (read s)) (lt-leb (end_of w) (ticks now) l)
@@ -142,7 +138,7 @@ last_moment e n p = go (eqb e n) refl
         not_le false r = refl
 
 pub over_now : (s : Sensor) → Sound (core s) → (now : Time) → is_at (interaction_deadline s) now ≡ true
-    → (w : WriteCycle) (a v : ℕ) → s.writing.operation ≡ Operation.Running w a v
+    → (w : WriteCycle) (a v : ℕ) → s.writing ≡ Some (w, a, v)
     → leb (ticks w.started + write_length) (ticks now) ≡ same (Cycle.deadline w) now
 over_now s h now d w a v e =
     let f : (is_off s ≡ false) × (end_of w < 2 ^ 128) = subst (λ (o : Operation). Fine o (is_off s)) e h.fine in
@@ -166,7 +162,7 @@ pub record Timely (s : Sensor) (now : Time) : Type 0 where
 
 -- what the table finds not to be so of an accepted timed call
 module _ (last : Time) (s : Sensor) (now : Time) (c : Call) (p : eqb (T.refusal last (interaction_deadline s) s.kept.lines c) 0 ≡ true) where
-  pub timely : (axes : Axes) (from : Lines) → facts c ≡ record { kind = Kind.Timed; time = Dated.At now; bytes = Bytes.Nothing; axes = axes; lines = from } → Timely s now
+  pub timely : (axes : Option (ℤ × ℤ × ℤ)) (from : Option Levels) → facts c ≡ record { kind = Kind.Timed; time = Some now; bytes = None; axes = axes; lines = from } → Timely s now
   unfolding T.too_late T.before_due T.due_by
   timely axes from e =
       let q = clear last (interaction_deadline s) s.kept.lines c p in

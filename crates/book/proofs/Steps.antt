@@ -1,4 +1,6 @@
 -- One call: the book changes as the sensor does, and what holds of every sensor of a list goes on holding.
+use Rattle.std.specs.Prelude.{Some, None}
+use Rattle.sensor.specs.Operation.{Operation}
 use Prim.Native.Nat.{ℕ, ◌^◌, ◌<◌}
 use mathlib.Core.Path.{◌≡◌, refl, sym, ap, subst, ◌∙◌}
 use mathlib.Core.Option.{Option, none, some}
@@ -15,15 +17,12 @@ use Rattle.i2c.specs.declared.types.Levels.{Levels}
 use Rattle.i2c.specs.declared.types.Edge.{Edge}
 use Rattle.i2c.specs.Bus.{edge}
 use Rattle.i2c.specs.Engine as E
-use Rattle.spi.specs.declared.types.Write.{Write}
 use Rattle.spi.specs.Frame as F
 use Rattle.deadlines.specs.Deadlines.{is_set, is_at}
 use Rattle.sensor.specs.declared.types.Kept.{Kept}
 use Rattle.calls.specs.declared.types.Timed.{Timed}
 use Rattle.calls.specs.declared.types.Call.{Call}
 use Rattle.bma150.specs.declared.host.Bma150.{Bma150}
-use Rattle.sensor.specs.declared.types.Operation.{Operation}
-use Rattle.sensor.specs.declared.types.Writing.{Writing}
 use Rattle.sensor.specs.declared.types.Sensor.{Sensor}
 use Rattle.sensor.specs.declared.types.Supply.{Supply}
 use Rattle.sensor.specs.Record.{lines_kept, is_off, serial_not_ready, is_quiet, is_writing, four_wire}
@@ -48,12 +47,12 @@ use Rattle.book.proofs.Sound.{running_of, read, running_operation, runs_running,
 -- a call that does d takes the five parts from k to l, and the book to m
 pub record Moved (k l : Core) (d : Does) (m : Book) : Type 0 where
   pub cells : m.cells ≡ l.cells
-  pub running : m.running ≡ running_of l.writing.operation
+  pub running : m.running ≡ running_of l.writing
   pub sound : Sound l
   pub zero : zeroed k.supply.cold d.rail ≡ l.supply.cold
   pub kept : d.keeps k.kept ≡ l.kept
 
-abbrev with_running : Core → Writing → Core
+abbrev with_running : Core → Operation → Core
 with_running k w = record { cells = k.cells; writing = w; supply = k.supply; kept = k.kept; selected = k.selected }
 
 abbrev keeping : Core → Kept → Core
@@ -98,19 +97,19 @@ module _ (b : Bma150) (h : Sound (core b.sensor)) where
   -- the parts that a due or pin call leaves, and the book's
   record Ended (l : Core) (m : Book) : Type 0 where
     cells : m.cells ≡ l.cells
-    running : m.running ≡ running_of l.writing.operation
+    running : m.running ≡ running_of l.writing
     sound : Sound l
     supply : l.supply ≡ s.supply
     kept : l.kept ≡ s.kept
 
-  ended_moved : (now : Time) → is_at (interaction_deadline s) now ≡ true → Ended (ended s.writing.operation (core s) now) (completed (read b) now)
+  ended_moved : (now : Time) → is_at (interaction_deadline s) now ≡ true → Ended (ended s.writing (core s) now) (completed (read b) now)
   unfolding completing running_of ended
-  ended_moved now d = go s.writing.operation refl
+  ended_moved now d = go s.writing refl
     where
-      go : (op : Operation) → s.writing.operation ≡ op → Ended (ended op (core s) now) (completing (running_of op) (read b) now)
-      go Operation.Idle e = record { cells = refl; running = refl; sound = h; supply = refl; kept = refl }
-      go (Operation.Running w a v) e =
-          subst (λ (x : Bool). Ended (ended (Operation.Running w a v) (core s) now) (cond x (closed (read b) (record { address = a; wanted = v; began = w.started }) v) (read b)))
+      go : (op : Operation) → s.writing ≡ op → Ended (ended op (core s) now) (completing (running_of op) (read b) now)
+      go None e = record { cells = refl; running = refl; sound = h; supply = refl; kept = refl }
+      go (Some (w, a, v)) e =
+          subst (λ (x : Bool). Ended (ended (Some (w, a, v)) (core s) now) (cond x (closed (read b) (record { address = a; wanted = v; began = w.started }) v) (read b)))
           (sym (over_now s h now d w a v e)) (chosen (same (Cycle.deadline w) now))
         where
           chosen : (x : Bool) → Ended (cond x (over (core s) (with_cell s.nonvolatile a v)) (core s)) (cond x (closed (read b) (record { address = a; wanted = v; began = w.started }) v) (read b))
@@ -136,35 +135,35 @@ module _ (b : Bma150) (h : Sound (core b.sensor)) where
   unfolding effect timed_does changed_at supplied began accepted_write
   moved_due now d =
       subst (λ (l : Core). Moved (core s) l (timed now) (completed (read b) now))
-      (sym (due_is (sync_local_until s now false) now ∙ ap (λ (k : Core). ended k.writing.operation k now) (sync_keeps s now false).same))
+      (sym (due_is (sync_local_until s now false) now ∙ ap (λ (k : Core). ended k.writing k now) (sync_keeps s now false).same))
       (ended_is_moved _ (timed now) _ (ended_moved now d) refl (λ k. refl))
 
   -- ---- supply
 
   -- no write runs without supply
-  idle : is_off s ≡ true → s.writing.operation ≡ Operation.Idle
-  idle out = go s.writing.operation h.fine
+  idle : is_off s ≡ true → s.writing ≡ None
+  idle out = go s.writing h.fine
     where
-      go : (op : Operation) → Fine op (is_off s) → op ≡ Operation.Idle
-      go Operation.Idle f = refl
-      go (Operation.Running w a v) f = let g : is_off s ≡ false = f.0 in cc
+      go : (op : Operation) → Fine op (is_off s) → op ≡ None
+      go None f = refl
+      go (Some (w, a, v)) f = let g : is_off s ≡ false = f.0 in cc
 
   -- a write that is cut
   pub record Cut (l : Core) (m : Book) : Type 0 where
     pub cells : m.cells ≡ l.cells
-    pub running : m.running ≡ running_of l.writing.operation
-    pub none_runs : l.writing.operation ≡ Operation.Idle
+    pub running : m.running ≡ running_of l.writing
+    pub none_runs : l.writing ≡ None
     pub kept : l.kept ≡ s.kept
 
-  cut_moved : (now : Time) → Cut (cut_to s.writing.operation (core s) now) (cutting (running_of s.writing.operation) (read b) now)
+  cut_moved : (now : Time) → Cut (cut_to s.writing (core s) now) (cutting (running_of s.writing) (read b) now)
   unfolding cutting running_of cut_to
-  cut_moved now = go s.writing.operation refl
+  cut_moved now = go s.writing refl
     where
-      go : (op : Operation) → s.writing.operation ≡ op → Cut (cut_to op (core s) now) (cutting (running_of op) (read b) now)
-      go Operation.Idle e = record { cells = refl; running = refl; none_runs = e; kept = refl }
-      go (Operation.Running w a v) e = record { cells = refl; running = refl; none_runs = refl; kept = refl }
+      go : (op : Operation) → s.writing ≡ op → Cut (cut_to op (core s) now) (cutting (running_of op) (read b) now)
+      go None e = record { cells = refl; running = refl; none_runs = e; kept = refl }
+      go (Some (w, a, v)) e = record { cells = refl; running = refl; none_runs = refl; kept = refl }
 
-  uncut : (now : Time) → is_off s ≡ true → cutting (running_of s.writing.operation) (read b) now ≡ read b
+  uncut : (now : Time) → is_off s ≡ true → cutting (running_of s.writing) (read b) now ≡ read b
   unfolding cutting running_of
   uncut now o = ap (λ (x : Operation). cutting (running_of x) (read b) now) (idle o)
 
@@ -183,7 +182,7 @@ module _ (b : Bma150) (h : Sound (core b.sensor)) where
           → Moved (core s)
           (cond low (cond out (cond zero (emptied (core s)) (core s)) (lost (core s) now zero)) (cond out (cond cold (cold_again (core s)) (warm_again (core s))) (core s)))
           (supplying now rail)
-          (cond low (cutting (running_of s.writing.operation) (read b) now) (read b))
+          (cond low (cutting (running_of s.writing) (read b) now) (read b))
       go true u true z true o cold c =
           let p = uncut now o in
           record { cells = ap (λ (k : Book). k.cells) p; running = ap (λ (k : Book). k.running) p; sound = record { fine = h.fine; warm = λ f. (let g : true ≡ false = sym o ∙ f in cc); deaf = h.deaf }; zero = met false true cold u z c; kept = refl }
@@ -213,8 +212,8 @@ module _ (b : Bma150) (h : Sound (core b.sensor)) where
 
   -- ---- pin calls
 
-  write_moved : (u : Sensor) → Keeps s u → (w : Write) (now : Time) → T.late now ≡ false → now.1 < 2 ^ 64
-      → ((a v : ℕ) → w ≡ Write.Register a v → is_off s ≡ false)
+  write_moved : (u : Sensor) → Keeps s u → (w : Option (ℕ × ℕ)) (now : Time) → T.late now ≡ false → now.1 < 2 ^ 64
+      → ((a v : ℕ) → w ≡ Some (a, v) → is_off s ≡ false)
       → Ended (with_running (core s) (begun_writing w u now)) (began (read b) (record { write = w; meets = u }) now)
   unfolding began of_write operation
   write_moved u k w now early small live =
@@ -223,44 +222,44 @@ module _ (b : Bma150) (h : Sound (core b.sensor)) where
       q : u.writing ≡ s.writing
       q = ap (λ (x : Core). x.writing) k.same
 
-      same_test : accepted_write w u (B.runs (running_of s.writing.operation)) ≡ accepted_write w u (is_writing u)
-      same_test = ap (λ (x : Bool). accepted_write w u x) (runs_running s.writing.operation ∙ ap (λ (x : Writing). Record.runs x.operation) (sym q))
+      same_test : accepted_write w u (B.runs (running_of s.writing)) ≡ accepted_write w u (is_writing u)
+      same_test = ap (λ (x : Bool). accepted_write w u x) (runs_running s.writing ∙ ap (λ (x : Operation). Record.runs x.operation) (sym q))
 
-      fine_of : (x : Write) → w ≡ x → Fine (operation (of_write x now)) (is_off s)
-      fine_of Write.Nothing e = tt
-      fine_of (Write.Register a v) e = (live a v e, end_fits now early small)
+      fine_of : (x : Option (ℕ × ℕ)) → w ≡ x → Fine (operation (of_write x now)) (is_off s)
+      fine_of None e = tt
+      fine_of (Some (a, v)) e = (live a v e, end_fits now early small)
 
-      chosen : (x : Bool) → Ended (with_running (core s) (cond x (record { operation = operation (of_write w now) }) u.writing)) (cond x (book s.nonvolatile (of_write w now) (struck b)) (read b))
+      chosen : (x : Bool) → Ended (with_running (core s) (cond x (operation (of_write w now)) u.writing)) (cond x (book s.nonvolatile (of_write w now) (struck b)) (read b))
       chosen true = record { cells = refl; running = sym (running_operation (of_write w now)); sound = record { fine = fine_of w refl; warm = h.warm; deaf = h.deaf }; supply = refl; kept = refl }
-      chosen false = record { cells = refl; running = ap (λ (x : Writing). running_of x.operation) (sym q); sound = record { fine = subst (λ (x : Writing). Fine x.operation (is_off s)) (sym q) h.fine; warm = h.warm; deaf = h.deaf }; supply = refl; kept = refl }
+      chosen false = record { cells = refl; running = ap (λ (x : Operation). running_of x.operation) (sym q); sound = record { fine = subst (λ (x : Operation). Fine x.operation (is_off s)) (sym q) h.fine; warm = h.warm; deaf = h.deaf }; supply = refl; kept = refl }
 
   -- SPI writes only with supply, since it is deselected without
-  spi_selected : (u : Sensor) (mosi : Bool) (a v : ℕ) → spi_write u mosi ≡ Write.Register a v → u.frame.selected ≡ true
+  spi_selected : (u : Sensor) (mosi : Bool) (a v : ℕ) → spi_write u mosi ≡ Some (a, v) → u.frame.selected ≡ true
   unfolding spi_write spi_listens
   spi_selected u mosi a v e = go u.frame.selected e
     where
-      go : (b : Bool) → cond ((b && (not (serial_not_ready u) && not (is_quiet u))) && not u.frame.turnaround) (F.take_bit u.frame mosi (four_wire u)).write Write.Nothing ≡ Write.Register a v → b ≡ true
+      go : (b : Bool) → cond ((b && (not (serial_not_ready u) && not (is_quiet u))) && not u.frame.turnaround) (F.take_bit u.frame mosi (four_wire u)).write None ≡ Some (a, v) → b ≡ true
       go true f = refl
       go false f = cc
 
-  spi_live : (u : Sensor) → Keeps s u → (mosi : Bool) (a v : ℕ) → spi_write u mosi ≡ Write.Register a v → is_off s ≡ false
+  spi_live : (u : Sensor) → Keeps s u → (mosi : Bool) (a v : ℕ) → spi_write u mosi ≡ Some (a, v) → is_off s ≡ false
   spi_live u k mosi a v e = go (is_off s) refl
     where
       go : (b : Bool) → is_off s ≡ b → b ≡ false
       go true o = let g : s.frame.selected ≡ false = h.deaf o in let f : s.frame.selected ≡ true = sym (ap (λ (x : Core). x.selected) k.same) ∙ spi_selected u mosi a v e in cc
       go false o = refl
 
-  i2c_live : (u : Sensor) → Keeps s u → (x : Edge) (a v : ℕ) → i2c_write u x ≡ Write.Register a v → is_off s ≡ false
+  i2c_live : (u : Sensor) → Keeps s u → (x : Edge) (a v : ℕ) → i2c_write u x ≡ Some (a, v) → is_off s ≡ false
   unfolding i2c_write i2c_listens
   i2c_live u k x a v e = sym (ap (λ (y : Core). off y) k.same) ∙ go u.frame.selected (is_off u) e
     where
-      go : (b o : Bool) → cond (not b && (not o && not (serial_not_ready u))) (action_write (E.step u.i2c x (is_quiet u) (ones_for u.frame.tx)).action) Write.Nothing ≡ Write.Register a v → o ≡ false
+      go : (b o : Bool) → cond (not b && (not o && not (serial_not_ready u))) (action_write (E.step u.i2c x (is_quiet u) (ones_for u.frame.tx)).action) None ≡ Some (a, v) → o ≡ false
       go true o f = cc
       go false true f = cc
       go false false f = refl
 
   -- a pin call whose edge makes the write w on u
-  module _ (now : Time) (small : now.1 < 2 ^ 64) (a : Timely s now) (u : Sensor) (k : Keeps s u) (w : Write) (live : (x v : ℕ) → w ≡ Write.Register x v → is_off s ≡ false) where
+  module _ (now : Time) (small : now.1 < 2 ^ 64) (a : Timely s now) (u : Sensor) (k : Keeps s u) (w : Option (ℕ × ℕ)) (live : (x v : ℕ) → w ≡ Some (x, v) → is_off s ≡ false) where
     edge_moved : (t : Sensor) (d : Does) (x : Kept) → core t ≡ keeping (with_running (core u) (begun_writing w u now)) x → d.rail ≡ none → d.keeps s.kept ≡ x
         → Moved (core s) (core t) d (began (completed (read b) now) (record { write = w; meets = u }) now)
     edge_moved t d x p e f =

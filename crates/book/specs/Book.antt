@@ -1,15 +1,13 @@
 -- The write book (01, "Write book"). It never reads the stored bytes or the running write of the definitions' record.
-use Rattle.std.specs.Prelude.{ℕ, ◌+◌, ◌-◌, Bool, true, false, List, [], ◌∷◌, leb, ltb, replicate, if◌then◌else◌}
-use Rattle.std.proofs.Math.Option.{Option, none, some}
+use Rattle.sensor.specs.Operation.{Operation}
+use Rattle.std.specs.Prelude.{ℕ, ◌+◌, ◌-◌, Bool, true, false, List, [], ◌∷◌, leb, ltb, replicate, if◌then◌else◌, Option, Some, None}
 use Rattle.laws.specs.Notation.{Byte}
 use Rattle.time.specs.declared.Time.{Time}
 use Rattle.time.specs.Time.{ticks}
 use Rattle.nv.specs.Cell.{write_length, cell_number, byte}
 use Rattle.nv.specs.Cycle as Cycle
 use Rattle.registers.specs.Access.{begins}
-use Rattle.spi.specs.declared.types.Write.{Write}
 use Rattle.calls.specs.declared.types.Call.{Call}
-use Rattle.sensor.specs.declared.types.Operation.{Operation}
 use Rattle.sensor.specs.declared.types.Sensor.{Sensor}
 use Rattle.sensor.specs.Record.{with_nonvolatile, with_writing, gate}
 use Rattle.sensor.specs.Image.{cell_byte, with_cell}
@@ -36,65 +34,65 @@ abbrev pub with_rest : Book → (rest : Bma150) → Book
 with_rest k rest = book k.cells k.running rest
 
 abbrev pub struck : Bma150 → Bma150
-struck s = record { sensor = with_writing (with_nonvolatile s.sensor (replicate 19 0)) (record { operation = Operation.Idle }); last = s.last }
+struck s = record { sensor = with_writing (with_nonvolatile s.sensor (replicate 19 0)) (None); last = s.last }
 
 -- at first the start image and no running write
 abbrev pub opened : Start → Book
-opened b = book b.image none (struck (started b))
+opened b = book b.image None (struck (started b))
 
 -- ---- the book's own cells and running write are put into the rest, to ask the definitions for the refusal, next due and the write that the pins make
 
 unfoldable pub operation : Option Running → Operation
-operation none = Operation.Idle
-operation (some w) = Operation.Running (Cycle.start w.began) w.address w.wanted
+operation None = None
+operation (Some w) = Some (Cycle.start w.began, w.address, w.wanted)
 
 abbrev pub filled : Book → Bma150
-filled k = record { sensor = with_writing (with_nonvolatile k.rest.sensor k.cells) (record { operation = operation k.running }); last = k.rest.last }
+filled k = record { sensor = with_writing (with_nonvolatile k.rest.sensor k.cells) (operation k.running); last = k.rest.last }
 
 -- ---- 01's sentences
 
 -- a write is over: its cell holds this byte, and none runs
 abbrev pub closed : Book → Running → (value : Byte) → Book
-closed k w value = book (with_cell k.cells w.address value) none k.rest
+closed k w value = book (with_cell k.cells w.address value) None k.rest
 
 -- an accepted timed call at t + D or later first puts the wanted byte in the running write's cell
 unfoldable pub completing : Option Running → Book → (now : Time) → Book
-completing none k now = k
-completing (some w) k now = if leb (ticks w.began + write_length) (ticks now) then closed k w w.wanted else k
+completing None k now = k
+completing (Some w) k now = if leb (ticks w.began + write_length) (ticks now) then closed k w w.wanted else k
 
 abbrev pub completed : Book → (now : Time) → Book
 completed k now = completing k.running k now
 
 -- a supply call below 2400 mV cuts a running write: its address, its byte as old, the wanted byte, e = the call's time less t
 unfoldable pub cutting : Option Running → Book → (now : Time) → Book
-cutting none k now = k
-cutting (some w) k now = closed k w (byte (cell_byte k.cells w.address) w.wanted (cell_number w.address) (ticks now - ticks w.began))
+cutting None k now = k
+cutting (Some w) k now = closed k w (byte (cell_byte k.cells w.address) w.wanted (cell_number w.address) (ticks now - ticks w.began))
 
 unfoldable pub supplied : Option ℕ → Book → (now : Time) → Book
-supplied none k now = k
-supplied (some rail) k now = if ltb rail 2400 then cutting k.running k now else k
+supplied None k now = k
+supplied (Some rail) k now = if ltb rail 2400 then cutting k.running k now else k
 
 -- a pin call from which the definitions accept a stored write begins it, t being the call's time; never while one runs in the book
 unfoldable pub runs : Option Running → Bool
-runs none = false
-runs (some w) = true
+runs None = false
+runs (Some w) = true
 
-unfoldable pub accepted_write : Write → Sensor → (running : Bool) → Bool
-accepted_write Write.Nothing s running = false
-accepted_write (Write.Register address value) s running =
+unfoldable pub accepted_write : Option (ℕ × ℕ) → Sensor → (running : Bool) → Bool
+accepted_write None s running = false
+accepted_write (Some (address, value)) s running =
     begins address value (gate s) running
 
-unfoldable pub of_write : Write → (now : Time) → Option Running
-of_write Write.Nothing now = none
-of_write (Write.Register address value) now = some (record { address = address; wanted = value; began = now })
+unfoldable pub of_write : Option (ℕ × ℕ) → (now : Time) → Option Running
+of_write None now = None
+of_write (Some (address, value)) now = Some (record { address = address; wanted = value; began = now })
 
 unfoldable pub began : Book → Asked → (now : Time) → Book
 began k a now = if accepted_write a.write a.meets (runs k.running) then book k.cells (of_write a.write now) k.rest else k
 
 -- what an accepted call changes, by what it does; s is the filled record before it. Only a timed call changes the book
 unfoldable pub changed_at : Option Time → Does → Book → Sensor → Book
-changed_at none d k s = k
-changed_at (some now) d k s = began (supplied d.rail (completed k now) now) (d.asks s) now
+changed_at None d k s = k
+changed_at (Some now) d k s = began (supplied d.rail (completed k now) now) (d.asks s) now
 
 abbrev pub changed : Book → Sensor → Call → Book
 changed k s c = changed_at (does c).time (does c) k s

@@ -1,11 +1,9 @@
 -- The closed form of the write book's cells: each holds the starting byte if no write to it began, else what the latest one left: the wanted byte if it completed, or the cut rule's.
-use Rattle.std.specs.Prelude.{ℕ, zero, suc, ◌+◌, ◌-◌, Bool, true, false, ◌&&◌, List, [], ◌∷◌, map, leb, ltb, eqb, if◌then◌else◌}
-use Rattle.std.proofs.Math.Option.{Option, none, some}
+use Rattle.std.specs.Prelude.{ℕ, zero, suc, ◌+◌, ◌-◌, Bool, true, false, ◌&&◌, List, [], ◌∷◌, map, leb, ltb, eqb, if◌then◌else◌, Option, Some, None}
 use Rattle.laws.specs.Notation.{Byte, Address, Image}
 use Rattle.time.specs.declared.Time.{Time}
 use Rattle.time.specs.Time.{ticks}
 use Rattle.nv.specs.Cell.{write_length, cell_number, byte}
-use Rattle.spi.specs.declared.types.Write.{Write}
 use Rattle.calls.specs.declared.types.Call.{Call}
 use Rattle.sensor.specs.declared.types.Sensor.{Sensor}
 use Rattle.sensor.specs.Image.{cell_byte}
@@ -24,8 +22,8 @@ pub record Entry : Type 0 where
 
 -- an untimed call is left out
 unfoldable pub with_entry : Option Time → Does → Sensor → List Entry → List Entry
-with_entry none d s later = later
-with_entry (some now) d s later = record { time = now; rail = d.rail; asked = d.asks s } ∷ later
+with_entry None d s later = later
+with_entry (Some now) d s later = record { time = now; rail = d.rail; asked = d.asks s } ∷ later
 
 -- a refused one is left out; the definitions are asked as the book asks them
 unfoldable pub entries : Book → List Call → List Entry
@@ -72,8 +70,8 @@ as_running w = record { address = w.address; wanted = w.wanted; began = w.began 
 
 -- the write that runs, if one does
 unfoldable pub that_runs : List Wrote → Option Running
-that_runs [] = none
-that_runs (w ∷ earlier) = if is_running w.fate then some (as_running w) else that_runs earlier
+that_runs [] = None
+that_runs (w ∷ earlier) = if is_running w.fate then Some (as_running w) else that_runs earlier
 
 -- a running write that is over has this fate; any other write stays as it is
 unfoldable pub ended : Fate → (over : Bool) → Wrote → Wrote
@@ -85,17 +83,17 @@ completed_at now w = ended Fate.completed (leb (ticks w.began + write_length) (t
 
 -- a supply call below 2400 mV
 unfoldable pub is_low : Option ℕ → Bool
-is_low none = false
-is_low (some rail) = ltb rail 2400
+is_low None = false
+is_low (Some rail) = ltb rail 2400
 
 -- it cuts a running write, e = the call's time less t
 abbrev pub cut_at : Option ℕ → (now : Time) → Wrote → Wrote
 cut_at rail now w = ended (Fate.cut (ticks now - ticks w.began)) (is_low rail) w
 
 -- a write begins, t being the call's time: the latest is put first
-unfoldable pub with_write : Write → (now : Time) → List Wrote → List Wrote
-with_write Write.Nothing now l = l
-with_write (Write.Register address value) now l = record { address = address; wanted = value; began = now; fate = Fate.running } ∷ l
+unfoldable pub with_write : Option (ℕ × ℕ) → (now : Time) → List Wrote → List Wrote
+with_write None now l = l
+with_write (Some (address, value)) now l = record { address = address; wanted = value; began = now; fate = Fate.running } ∷ l
 
 -- a pin call from which the definitions accept a stored write begins it; never while one runs
 unfoldable pub begun : Asked → (now : Time) → List Wrote → List Wrote
@@ -135,13 +133,13 @@ pub record Last : Type 0 where
   pub earlier : List Wrote
 
 unfoldable pub latest : Address → List Wrote → Option Last
-latest address [] = none
-latest address (w ∷ earlier) = if eqb w.address address then some (record { write = w; earlier = earlier }) else latest address earlier
+latest address [] = None
+latest address (w ∷ earlier) = if eqb w.address address then Some (record { write = w; earlier = earlier }) else latest address earlier
 
 -- the starting byte if no write to the address began, else what the latest one left
 unfoldable pub told : (image : Image) (address : Address) → Option Last → Byte
-told image address none = cell_byte image address
-told image address (some l) = left_by l.write.fate (held image l.earlier address) l.write.wanted address
+told image address None = cell_byte image address
+told image address (Some l) = left_by l.write.fate (held image l.earlier address) l.write.wanted address
 
 -- ---- all cells
 

@@ -1,13 +1,11 @@
 -- What an accepted call does to what is kept, to the supply and to the write book, said once for each call.
-use Rattle.std.specs.Prelude.{ℕ, Bool, false, not, ◌&&◌, ℤ, if◌then◌else◌}
-use Rattle.std.proofs.Math.Option.{Option, none, some}
+use Rattle.std.specs.Prelude.{ℕ, Bool, false, not, ◌&&◌, ℤ, if◌then◌else◌, Option, Some, None}
 use Rattle.time.specs.declared.Time.{Time}
 use Rattle.i2c.specs.declared.types.Levels.{Levels}
 use Rattle.i2c.specs.declared.types.Edge.{Edge}
 use Rattle.i2c.specs.declared.types.Action.{Action}
 use Rattle.i2c.specs.Bus.{edge}
 use Rattle.i2c.specs.Engine as E
-use Rattle.spi.specs.declared.types.Write.{Write}
 use Rattle.spi.specs.Frame as F
 use Rattle.calls.specs.declared.types.Timed.{Timed}
 use Rattle.calls.specs.declared.types.Call.{Call}
@@ -28,23 +26,23 @@ abbrev pub at_pins : Sensor → Edge → (now : Time) → Sensor
 at_pins s e now = pins_synced (sync_local_until s now false) e now
 
 -- SPI: the last rise of a write frame
-unfoldable pub spi_write : Sensor → (mosi : Bool) → Write
-spi_write s mosi = if spi_listens s && not s.frame.turnaround then (F.take_bit s.frame mosi (four_wire s)).write else Write.Nothing
+unfoldable pub spi_write : Sensor → (mosi : Bool) → Option (ℕ × ℕ)
+spi_write s mosi = if spi_listens s && not s.frame.turnaround then (F.take_bit s.frame mosi (four_wire s)).write else None
 
 -- I2C: the eighth rise of a value byte
-unfoldable pub action_write : Action → Write
-action_write Action.Nothing = Write.Nothing
-action_write Action.Drop = Write.Nothing
-action_write (Action.Write register value) = Write.Register register value
-action_write (Action.Launch register) = Write.Nothing
-action_write (Action.ReadBegan register) = Write.Nothing
+unfoldable pub action_write : Action → Option (ℕ × ℕ)
+action_write Action.Nothing = None
+action_write Action.Drop = None
+action_write (Action.Write register value) = Some (register, value)
+action_write (Action.Launch register) = None
+action_write (Action.ReadBegan register) = None
 
-unfoldable pub i2c_write : Sensor → Edge → Write
-i2c_write s e = if i2c_listens s then action_write (E.step s.i2c e (is_quiet s) (ones_for s.frame.tx)).action else Write.Nothing
+unfoldable pub i2c_write : Sensor → Edge → Option (ℕ × ℕ)
+i2c_write s e = if i2c_listens s then action_write (E.step s.i2c e (is_quiet s) (ones_for s.frame.tx)).action else None
 
 -- a register write, and the sensor that meets it
 pub record Asked : Type 0 where
-  pub write : Write
+  pub write : Option (ℕ × ℕ)
   pub meets : Sensor
 
 -- ---- what a call does
@@ -60,20 +58,20 @@ pub record Does : Type 0 where
   pub asks : Sensor → Asked
 
 abbrev no_write : Sensor → Asked
-no_write s = record { write = Write.Nothing; meets = s }
+no_write s = record { write = None; meets = s }
 
 -- 01: temperature, select, view and stored image do no more to the book; accelerations, temperature and pin reports set what is kept
 abbrev pub untimed : (keeps : Kept → Kept) → Does
-untimed keeps = record { time = none; keeps = keeps; rail = none; asks = no_write }
+untimed keeps = record { time = None; keeps = keeps; rail = None; asks = no_write }
 
 abbrev pub timed : (now : Time) → Does
-timed now = record { time = some now; keeps = λ k. k; rail = none; asks = no_write }
+timed now = record { time = Some now; keeps = λ k. k; rail = None; asks = no_write }
 
 abbrev pub supplying : (now : Time) (rail : ℕ) → Does
-supplying now rail = record { time = some now; keeps = λ k. k; rail = some rail; asks = no_write }
+supplying now rail = record { time = Some now; keeps = λ k. k; rail = Some rail; asks = no_write }
 
 abbrev pub asking : (now : Time) (asks : Sensor → Asked) → Does
-asking now asks = record { time = some now; keeps = λ k. k; rail = none; asks = asks }
+asking now asks = record { time = Some now; keeps = λ k. k; rail = None; asks = asks }
 
 abbrev pub with_acceleration : ℤ → ℤ → ℤ → Kept → Kept
 with_acceleration x y z k = with_input k (record { x = x; y = y; z = z; temperature_millicelsius = k.input.temperature_millicelsius })
@@ -88,12 +86,12 @@ abbrev pub pins_ask : (now : Time) (before after : Levels) → Sensor → Asked
 pins_ask now before after s = record { write = i2c_write (at_pins s (edge before after) now) (edge before after); meets = at_pins s (edge before after) now }
 
 unfoldable pub timed_does : (now : Time) → Timed → Does
-timed_does now (Timed.Accelerations x y z) = record { time = some now; keeps = with_acceleration x y z; rail = none; asks = no_write }
+timed_does now (Timed.Accelerations x y z) = record { time = Some now; keeps = with_acceleration x y z; rail = None; asks = no_write }
 timed_does now (Timed.Supply rail) = supplying now rail
 timed_does now Timed.Due = timed now
 timed_does now (Timed.Rising mosi) = asking now (rise_asks now mosi)
 timed_does now Timed.Falling = timed now
-timed_does now (Timed.Pins before after) = record { time = some now; keeps = λ k. lines_kept k after; rail = none; asks = pins_ask now before after }
+timed_does now (Timed.Pins before after) = record { time = Some now; keeps = λ k. lines_kept k after; rail = None; asks = pins_ask now before after }
 
 unfoldable pub does : Call → Does
 does (Call.At now t) = timed_does now t

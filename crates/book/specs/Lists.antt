@@ -1,9 +1,7 @@
 -- Lists of calls after a start (01, "Runs and the write book"): what they leave, answer and keep.
-use Rattle.std.specs.Prelude.{ℕ, ◌^◌, ◌<◌, ◌≡◌, Bool, true, false, ◌||◌, List, [], ◌∷◌, leb, eqb, if◌then◌else◌}
-use Rattle.std.proofs.Math.Option.{Option, none, some}
+use Rattle.std.specs.Prelude.{ℕ, ◌^◌, ◌<◌, ◌≡◌, Bool, true, false, ◌||◌, List, [], ◌∷◌, leb, eqb, if◌then◌else◌, Option, Some, None}
 use Rattle.time.specs.declared.Time.{Time}
 use Rattle.spi.specs.declared.types.Drive.{Drive}
-use Rattle.deadlines.specs.declared.Deadline.{Deadline}
 use Rattle.calls.specs.declared.types.Timed.{Timed}
 use Rattle.calls.specs.declared.types.Call.{Call}
 use Rattle.calls.specs.declared.types.Starting.{Starting}
@@ -51,7 +49,7 @@ pub record Answer : Type 0 where
   pub output : Drive
   pub data_output : Drive
   pub adds : Added
-  pub next_due : Deadline
+  pub next_due : Option Time
 
 abbrev pub answer : Bma150 → Call → Answer
 answer s c = record {
@@ -92,8 +90,8 @@ accepted s (c ∷ cs) = if accepts s c then c ∷ accepted (step s c) cs else ac
 
 -- one of 0 since the last one of 2400 or more, or since the start
 unfoldable pub zeroed : (before : Bool) → Option ℕ → Bool
-zeroed before none = before
-zeroed before (some rail) = if leb 2400 rail then false else eqb rail 0 || before
+zeroed before None = before
+zeroed before (Some rail) = if leb 2400 rail then false else eqb rail 0 || before
 
 unfoldable pub met_zero : (before : Bool) → List Call → Bool
 met_zero before [] = before

@@ -1,5 +1,5 @@
 -- The I2C bus as the reports of a list of calls have it, and what the sensor does on it.
-use Rattle.std.specs.Prelude.{ℕ, ◌≡◌, Bool, true, false, ◌&&◌, ◌||◌, List, [], ◌∷◌, ltb, if◌then◌else◌}
+use Rattle.std.specs.Prelude.{ℕ, ◌≡◌, Bool, true, false, ◌&&◌, ◌||◌, List, [], ◌∷◌, ltb, if◌then◌else◌, None}
 use Rattle.time.specs.declared.Time.{Time}
 use Rattle.i2c.specs.declared.types.Edge.{Edge}
 use Rattle.i2c.specs.declared.types.Edge.TheVariants.{Still, Start, Stop, Rise, Fall}
@@ -9,7 +9,6 @@ use Rattle.i2c.specs.Bus.{edge}
 use Rattle.i2c.specs.Transfers.{and_edge}
 use Rattle.i2c.specs.Target.{Target, target, deed, Seen}
 use Rattle.spi.specs.declared.types.Serial.TheVariants as Serial
-use Rattle.deadlines.specs.declared.Deadline.TheVariants.{Never}
 use Rattle.calls.specs.declared.types.Timed.{Timed}
 use Rattle.calls.specs.declared.types.Call.{Call}
 use Rattle.control.specs.declared.types.WriteKind.{WriteKind}
@@ -26,10 +25,10 @@ use Rattle.book.specs.Lists.{accepts, step, after}
 -- ---- a sensor that hears the bus: with supply, its pins not dead, SPI not selected and at rest, not quiet after a soft reset
 pub record Heard (s : Sensor) : Type 0 where
   pub on : is_off s ≡ false
-  pub ready : s.deadlines.serial_ready ≡ Never
+  pub ready : s.deadlines.serial_ready ≡ None
   pub unselected : s.frame.selected ≡ false
   pub at_rest : s.frame.serial ≡ Serial.Address
-  pub loud : s.deadlines.quiet ≡ Never
+  pub loud : s.deadlines.quiet ≡ None
 
 -- ---- events
 

@@ -1,13 +1,9 @@
 -- SPI as the edges of a list of calls have it, and what the selected sensor does on it.
-use Rattle.std.specs.Prelude.{ℕ, ◌≡◌, Bool, true, false, not, ◌&&◌, ◌||◌, List, [], ◌∷◌, ltb, if◌then◌else◌}
-use Rattle.std.proofs.Math.Option.{Option, none, some}
+use Rattle.std.specs.Prelude.{ℕ, ◌≡◌, Bool, true, false, not, ◌&&◌, ◌||◌, List, [], ◌∷◌, ltb, if◌then◌else◌, Option, Some, None}
 use Rattle.time.specs.declared.Time.{Time}
 use Rattle.spi.specs.declared.types.Drive.{Drive}
-use Rattle.spi.specs.declared.types.Sent.{Sent}
-use Rattle.spi.specs.declared.types.Write.{Write}
 use Rattle.spi.specs.Frame as F
 use Rattle.spi.specs.Lines.{Event, Rise, Fall, Now, past_end, samples, deeds, Seen}
-use Rattle.deadlines.specs.declared.Deadline.TheVariants.{Never}
 use Rattle.calls.specs.declared.types.Timed.{Timed}
 use Rattle.calls.specs.declared.types.Call.{Call}
 use Rattle.writes.specs.Write.{write_kind}
@@ -25,33 +21,33 @@ use Rattle.bus.specs.I2c.{sampled, is_reset}
 -- ---- a selected sensor that hears SPI: with supply, its pins not dead, not quiet after a soft reset
 pub record Chosen (s : Sensor) : Type 0 where
   pub on : is_off s ≡ false
-  pub ready : s.deadlines.serial_ready ≡ Never
-  pub loud : s.deadlines.quiet ≡ Never
+  pub ready : s.deadlines.serial_ready ≡ None
+  pub loud : s.deadlines.quiet ≡ None
   pub selected : s.frame.selected ≡ true
 
 -- ---- events: the edges of the clock
 
 -- the edge of a timed call
 unfoldable pub timed_edge : Timed → Option Event
-timed_edge (Timed.Accelerations x y z) = none
-timed_edge (Timed.Supply rail) = none
-timed_edge Timed.Due = none
-timed_edge (Timed.Rising mosi) = some (Rise mosi)
-timed_edge Timed.Falling = some Fall
-timed_edge (Timed.Pins before after) = none
+timed_edge (Timed.Accelerations x y z) = None
+timed_edge (Timed.Supply rail) = None
+timed_edge Timed.Due = None
+timed_edge (Timed.Rising mosi) = Some (Rise mosi)
+timed_edge Timed.Falling = Some Fall
+timed_edge (Timed.Pins before after) = None
 
 -- the edge of a call, if it has one
 unfoldable pub edge_of : Call → Option Event
 edge_of (Call.At now t) = timed_edge t
-edge_of (Call.Temperature x) = none
-edge_of (Call.Select on) = none
-edge_of (Call.View address) = none
-edge_of (Call.StoredImage now length) = none
+edge_of (Call.Temperature x) = None
+edge_of (Call.Select on) = None
+edge_of (Call.View address) = None
+edge_of (Call.StoredImage now length) = None
 
 -- an entry before others
 unfoldable pub and_some : {A : Type 0} → Option A → List A → List A
-and_some none l = l
-and_some (some a) l = a ∷ l
+and_some None l = l
+and_some (Some a) l = a ∷ l
 
 -- the edges of accepted calls
 unfoldable pub edges : List Call → List Event
@@ -69,7 +65,7 @@ unfoldable pub noted : Sensor → Sensor
 noted m = if m.frame.turnaround then m else first_bit_taken (F.first_bit m.frame.serial m.frame.rx_bits) m
 
 -- the byte that a register shows to a fetch: none where it is withheld
-abbrev pub sends : Sensor → ℕ → Sent
+abbrev pub sends : Sensor → ℕ → Option ℕ
 sends s r = (prepare_read s r).sent
 
 -- at a rise: the wire mode that its bit meets, the one after the call, and what the registers show after the note
@@ -104,9 +100,9 @@ now_of s (Call.StoredImage now length) = past_end
 -- ---- what ends hearing: select 0, a supply below 2400 mV, and the write of a soft reset
 
 -- a register write that is a soft reset
-unfoldable pub write_resets : Sensor → Write → Bool
-write_resets s Write.Nothing = false
-write_resets s (Write.Register r v) = is_reset (write_kind s r v)
+unfoldable pub write_resets : Sensor → Option (ℕ × ℕ) → Bool
+write_resets s None = false
+write_resets s (Some (r, v)) = is_reset (write_kind s r v)
 
 -- a timed call ends hearing; a rise by the write that it makes
 unfoldable pub timed_leaves : Sensor → (now : Time) → Timed → Bool
@@ -158,13 +154,13 @@ sees_edge s c e = record { driven = spi_pin (step s c).sensor; sampled = samples
 
 -- if there is an edge
 unfoldable pub seen_edge : Bma150 → Call → Option Event → Option Seen
-seen_edge s c none = none
-seen_edge s c (some e) = some (sees_edge s c e)
+seen_edge s c None = None
+seen_edge s c (Some e) = Some (sees_edge s c e)
 
 -- the sensor at the edge, if there is one
 unfoldable pub now_edge : Bma150 → Call → Option Event → Option Now
-now_edge s c none = none
-now_edge s c (some e) = some (now_of s c)
+now_edge s c None = None
+now_edge s c (Some e) = Some (now_of s c)
 
 -- over a list of calls: an entry for each edge of an accepted one
 unfoldable pub seen_edges : Bma150 → List Call → List Seen

@@ -1,35 +1,31 @@
 -- What the table of refusals asks of a call, taken from the call once.
-use Rattle.std.specs.Prelude.{ℕ, ℤ}
+use Rattle.std.specs.Prelude.{ℕ, ℤ, Some, None}
 use Rattle.time.specs.declared.Time.{Time}
 use Rattle.i2c.specs.declared.types.Levels.{Levels}
 use Rattle.calls.specs.declared.types.Timed.{Timed}
 use Rattle.calls.specs.declared.types.Call.{Call}
 use Rattle.calls.specs.declared.types.Kind.{Kind}
-use Rattle.calls.specs.declared.types.Dated.TheVariants as Dated
-use Rattle.calls.specs.declared.types.Bytes.TheVariants as Bytes
-use Rattle.calls.specs.declared.types.Axes.TheVariants as Axes
-use Rattle.calls.specs.declared.types.Lines.TheVariants as Lines
 use Rattle.calls.specs.declared.types.Facts.{Facts}
 
 -- a timed call with nothing more to ask of it
 abbrev pub at : (kind : Kind) (now : Time) → Facts
-at kind now = record { kind = kind; time = Dated.At now; bytes = Bytes.Nothing; axes = Axes.Unset; lines = Lines.Unreported }
+at kind now = record { kind = kind; time = Some now; bytes = None; axes = None; lines = None }
 
 -- a call without a time
 abbrev pub untimed : Facts
-untimed = record { kind = Kind.Untimed; time = Dated.Undated; bytes = Bytes.Nothing; axes = Axes.Unset; lines = Lines.Unreported }
+untimed = record { kind = Kind.Untimed; time = None; bytes = None; axes = None; lines = None }
 
 -- a start or a stored-image call: bytes and a time, and none of 01's timed calls
 abbrev pub bringing : (now : Time) (n : ℕ) → Facts
-bringing now n = record { kind = Kind.Untimed; time = Dated.At now; bytes = Bytes.Count n; axes = Axes.Unset; lines = Lines.Unreported }
+bringing now n = record { kind = Kind.Untimed; time = Some now; bytes = Some n; axes = None; lines = None }
 
 -- a timed call that sets the accelerations
 abbrev pub setting : (now : Time) (x y z : ℤ) → Facts
-setting now x y z = record { kind = Kind.Timed; time = Dated.At now; bytes = Bytes.Nothing; axes = Axes.Set x y z; lines = Lines.Unreported }
+setting now x y z = record { kind = Kind.Timed; time = Some now; bytes = None; axes = Some (x, y, z); lines = None }
 
 -- an I2C pin report
 abbrev pub reporting : (now : Time) (before : Levels) → Facts
-reporting now before = record { kind = Kind.Timed; time = Dated.At now; bytes = Bytes.Nothing; axes = Axes.Unset; lines = Lines.Before before }
+reporting now before = record { kind = Kind.Timed; time = Some now; bytes = None; axes = None; lines = Some before }
 
 -- 01: a timed call is accelerations, supply, due moment, SPI edge, I2C pins
 unfoldable pub timed_facts : (now : Time) → Timed → Facts

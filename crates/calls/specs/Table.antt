@@ -1,22 +1,16 @@
 -- 01's table of refusals: which one a call gets, from the last accepted time, next due, the I2C levels after the last accepted report, and the call.
-use Rattle.std.specs.Prelude.{ℕ, ◌^◌, Bool, false, not, ◌&&◌, ◌||◌, List, [], ◌∷◌, leb, eqb, ℤ, pos, neg_ℤ, if◌then◌else◌}
+use Rattle.std.specs.Prelude.{ℕ, ◌^◌, Bool, false, not, ◌&&◌, ◌||◌, List, [], ◌∷◌, leb, eqb, ℤ, pos, neg_ℤ, if◌then◌else◌, Option, Some, None, Result, Ok, Err}
 use Rattle.std.specs.Bool.{beq}
 use Rattle.std.specs.Int.Signed.{lt_z}
 use Rattle.time.specs.declared.Time.{Time}
 use Rattle.time.specs.Time.{precedes}
 use Rattle.registers.specs.Map.{range, bandwidth}
 use Rattle.i2c.specs.declared.types.Levels.{Levels}
-use Rattle.deadlines.specs.declared.Deadline.{Deadline}
 use Rattle.deadlines.specs.Deadlines.{is_at, is_by}
 use Rattle.calls.specs.declared.types.Call.{Call}
 use Rattle.calls.specs.declared.types.Starting.{Starting}
 use Rattle.calls.specs.declared.types.Refusal.{Refusal}
-use Rattle.calls.specs.declared.types.Outcome.{Outcome}
 use Rattle.calls.specs.declared.types.Kind.{Kind}
-use Rattle.calls.specs.declared.types.Dated.{Dated}
-use Rattle.calls.specs.declared.types.Bytes.{Bytes}
-use Rattle.calls.specs.declared.types.Axes.{Axes}
-use Rattle.calls.specs.declared.types.Lines.{Lines}
 use Rattle.calls.specs.declared.types.Facts.{Facts}
 use Rattle.calls.specs.Facts.{facts}
 
@@ -67,16 +61,16 @@ refusal_number Refusal.Command = command
 refusal_number Refusal.PinJump = pin_jump
 refusal_number Refusal.ReservedCode = reserved_code
 
-unfoldable pub number : Outcome → ℕ
-number Outcome.Accepted = no_refusal
-number (Outcome.Refused why) = refusal_number why
+unfoldable pub number : Result (Unit {0}) Refusal → ℕ
+number (Ok _) = no_refusal
+number (Err why) = refusal_number why
 
 -- ---- the table's last column, a test each, false where it does not apply
 
 -- 1: not 19 bytes
-unfoldable pub wrong_length : Bytes → Bool
-wrong_length (Bytes.Count n) = not (eqb n 19)
-wrong_length Bytes.Nothing = false
+unfoldable pub wrong_length : Option ℕ → Bool
+wrong_length (Some n) = not (eqb n 19)
+wrong_length None = false
 
 -- 2: an axis is beyond ±1,000,000,000
 unfoldable pub beyond : (axis : ℤ) → Bool
@@ -85,39 +79,39 @@ beyond axis = lt_z (pos 1000000000) axis || lt_z axis (neg_ℤ (pos 1000000000))
 unfoldable pub any_beyond : ℤ → ℤ → ℤ → Bool
 any_beyond x y z = beyond x || (beyond y || beyond z)
 
-unfoldable pub out_of_range : Axes → Bool
-out_of_range (Axes.Set x y z) = any_beyond x y z
-out_of_range Axes.Unset = false
+unfoldable pub out_of_range : Option (ℤ × ℤ × ℤ) → Bool
+out_of_range (Some (x, y, z)) = any_beyond x y z
+out_of_range None = false
 
 -- 3: whole seconds are 2^32 or more
 unfoldable pub late : (now : Time) → Bool
 late now = leb (2 ^ 32) now.0
 
-unfoldable pub too_late : Dated → Bool
-too_late (Dated.At now) = late now
-too_late Dated.Undated = false
+unfoldable pub too_late : Option Time → Bool
+too_late (Some now) = late now
+too_late None = false
 
 -- 4: earlier than the last accepted time
-unfoldable pub goes_back : (last : Time) → Dated → Bool
-goes_back last (Dated.At now) = precedes now last
-goes_back last Dated.Undated = false
+unfoldable pub goes_back : (last : Time) → Option Time → Bool
+goes_back last (Some now) = precedes now last
+goes_back last None = false
 
 -- 5: a timed call other than the due call, and next due is at or before its time
-unfoldable pub due_by : (due : Deadline) → Dated → Bool
-due_by due (Dated.At now) = is_by due now
-due_by due Dated.Undated = false
+unfoldable pub due_by : (due : Option Time) → Option Time → Bool
+due_by due (Some now) = is_by due now
+due_by due None = false
 
-unfoldable pub before_due : (due : Deadline) → Kind → (time : Dated) → Bool
+unfoldable pub before_due : (due : Option Time) → Kind → (time : Option Time) → Bool
 before_due due Kind.Timed time = due_by due time
 before_due due Kind.Due time = false
 before_due due Kind.Untimed time = false
 
 -- 6: a due call whose time is not next due, or nothing is due
-unfoldable pub due_at : (due : Deadline) → Dated → Bool
-due_at due (Dated.At now) = is_at due now
-due_at due Dated.Undated = false
+unfoldable pub due_at : (due : Option Time) → Option Time → Bool
+due_at due (Some now) = is_at due now
+due_at due None = false
 
-unfoldable pub beside_due : (due : Deadline) → Kind → (time : Dated) → Bool
+unfoldable pub beside_due : (due : Option Time) → Kind → (time : Option Time) → Bool
 beside_due due Kind.Timed time = false
 beside_due due Kind.Due time = not (due_at due time)
 beside_due due Kind.Untimed time = false
@@ -126,9 +120,9 @@ beside_due due Kind.Untimed time = false
 abbrev pub same_levels : (a b : Levels) → Bool
 same_levels a b = beq a.scl b.scl && beq a.sda b.sda
 
-unfoldable pub jumps : (lines : Levels) → Lines → Bool
-jumps lines (Lines.Before before) = not (same_levels lines before)
-jumps lines Lines.Unreported = false
+unfoldable pub jumps : (lines : Levels) → Option Levels → Bool
+jumps lines (Some before) = not (same_levels lines before)
+jumps lines None = false
 
 -- 9: range code 3 or bandwidth code 7 in the byte of register 14, which the data sheet reserves; asked by command 01's start alone
 unfoldable pub reserved : (measurement : ℕ) → Bool
@@ -155,7 +149,7 @@ first_found (r ∷ rs) a = if r.test a then r.number else first_found rs a
 -- what a call meets: the last accepted time, next due before any sampling, the levels after the last accepted pin report, and what is asked of the call itself
 pub record Meets : Type 0 where
   pub last : Time
-  pub due : Deadline
+  pub due : Option Time
   pub lines : Levels
   pub call : Facts
 
@@ -171,7 +165,7 @@ rows =
     ∷ row not_due (λ m. beside_due m.due m.call.kind m.call.time)
     ∷ []
 
-unfoldable pub refusal : (last : Time) (due : Deadline) (lines : Levels) → Call → ℕ
+unfoldable pub refusal : (last : Time) (due : Option Time) (lines : Levels) → Call → ℕ
 refusal last due lines c = first_found rows (record { last = last; due = due; lines = lines; call = facts c })
 
 -- what a start meets: by which call, its time, the length of the image and its byte of register 14
@@ -184,7 +178,7 @@ pub record Brings : Type 0 where
 -- a start: 1, 9, 3
 abbrev pub start_rows : List (Row Brings)
 start_rows =
-    row image_length (λ b. wrong_length (Bytes.Count b.length))
+    row image_length (λ b. wrong_length (Some b.length))
     ∷ row reserved_code (λ b. turned_down b.by b.measurement)
     ∷ row time_limit (λ b. late b.time)
     ∷ []

@@ -3,7 +3,7 @@ use i2c::types::Levels;
 use time::Time;
 
 // What a timed call does at its moment.
-#[derive(Clone, Copy)]
+#[derive(Clone, Copy, PartialEq, Eq)]
 pub enum Timed {
     Accelerations(i32, i32, i32),
     Supply(u16),
@@ -14,7 +14,7 @@ pub enum Timed {
 }
 
 // Of a stored-image call's buffer only the length counts.
-#[derive(Clone, Copy)]
+#[derive(Clone, Copy, PartialEq, Eq)]
 pub enum Call {
     At(Time, Timed),
     Temperature(i32),
@@ -24,14 +24,14 @@ pub enum Call {
 }
 
 // By which call a sensor is started: command 01's, or command 0c's, which takes any image.
-#[derive(Clone, Copy)]
+#[derive(Clone, Copy, PartialEq, Eq)]
 pub enum Starting {
     Checked,
     Stored,
 }
 
 // Why a call is refused (01's table).
-#[derive(Clone, Copy)]
+#[derive(Clone, Copy, PartialEq, Eq)]
 pub enum Refusal {
     ImageLength,
     AxisRange,
@@ -44,55 +44,21 @@ pub enum Refusal {
     ReservedCode,
 }
 
-// Accepted, or refused and why.
-#[derive(Clone, Copy)]
-pub enum Outcome {
-    Accepted,
-    Refused(Refusal),
-}
-
 // Whether a call is the due call, another timed call, or none of 01's timed calls.
-#[derive(Clone, Copy)]
+#[derive(Clone, Copy, PartialEq, Eq)]
 pub enum Kind {
     Timed,
     Due,
     Untimed,
 }
 
-// The time that a call gives.
-#[derive(Clone, Copy)]
-pub enum Dated {
-    At(Time),
-    Undated,
-}
-
-// The length of the bytes that a call brings.
-#[derive(Clone, Copy)]
-pub enum Bytes {
-    Count(usize),
-    Nothing,
-}
-
-// The accelerations that a call sets.
-#[derive(Clone, Copy)]
-pub enum Axes {
-    Set(i32, i32, i32),
-    Unset,
-}
-
-// The levels of the I2C lines before a pin report.
-#[derive(Clone, Copy)]
-pub enum Lines {
-    Before(Levels),
-    Unreported,
-}
-
-// What the table asks of a call.
-#[derive(Clone, Copy)]
+// What the table asks of a call: its kind, the time that it gives, the length of the bytes that it brings, the accelerations that it
+// sets, and the levels of the I2C lines before a pin report.
+#[derive(Clone, Copy, PartialEq, Eq)]
 pub struct Facts {
     pub kind: Kind,
-    pub time: Dated,
-    pub bytes: Bytes,
-    pub axes: Axes,
-    pub lines: Lines,
+    pub time: Option<Time>,
+    pub bytes: Option<usize>,
+    pub axes: Option<(i32, i32, i32)>,
+    pub lines: Option<Levels>,
 }

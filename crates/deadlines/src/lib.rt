@@ -6,98 +6,70 @@ ghost use Rattle.deadlines.specs.Deadlines as D;
 
 use time::{Duration, Time};
 
-// A moment at which something is due, or none.
-#[derive(Clone, Copy)]
-pub enum Deadline {
-    At(Time),
-    Never,
-}
-
-// What the sensor waits for, apart from its next sample and a stored write.
-#[derive(Clone, Copy)]
+// What the sensor waits for, apart from its next sample and a stored write: for each the moment at which it is due, or none.
+#[derive(Clone, Copy, PartialEq, Eq)]
 pub struct Deadlines {
-    pub serial_ready: Deadline,
-    pub wake: Deadline,
-    pub pause: Deadline,
-    pub quiet: Deadline,
-    pub irq_hold: Deadline,
-    pub image: Deadline,
+    pub serial_ready: Option<Time>,
+    pub wake: Option<Time>,
+    pub pause: Option<Time>,
+    pub quiet: Option<Time>,
+    pub irq_hold: Option<Time>,
+    pub image: Option<Time>,
 }
 
-impl Deadline {
-    // Whether there is one.
-    #[tactic(auto, unfolding(crate::specs::Deadlines::is_set))]
-    pub fn is_set(self) -> bool
-        ensures { result ≡ D.is_set self }
-    {
-        match self {
-            Deadline::At(_) => true,
-            Deadline::Never => false,
-        }
-    }
+// Which of them.
+#[derive(Clone, Copy, PartialEq, Eq)]
+pub enum Wait {
+    SerialReady,
+    Wake,
+    Pause,
+    Quiet,
+    IrqHold,
+    Image,
+}
 
-    // Whether it is at this moment.
-    #[tactic(auto, unfolding(crate::specs::Deadlines::is_at))]
-    pub fn is_at(self, now: Time) -> bool
-        ensures { result ≡ D.is_at self now }
-    {
-        match self {
-            Deadline::At(t) => t.same(now),
-            Deadline::Never => false,
-        }
-    }
+// Whether a deadline is at this moment.
+#[tactic(auto, unfolding(crate::specs::Deadlines::is_at))]
+pub fn is_at(deadline: Option<Time>, now: Time) -> bool
+    ensures { result ≡ D.is_at deadline now }
+{
+    deadline.is_some_and(|t| t == now)
+}
 
-    // Whether it is at this moment or before it.
-    #[tactic(auto, unfolding(crate::specs::Deadlines::is_by))]
-    pub fn is_by(self, now: Time) -> bool
-        ensures { result ≡ D.is_by self now }
-    {
-        match self {
-            Deadline::At(t) => !now.precedes(t),
-            Deadline::Never => false,
-        }
-    }
+// Whether it is at this moment or before it.
+#[tactic(auto, unfolding(crate::specs::Deadlines::is_by))]
+pub fn is_by(deadline: Option<Time>, now: Time) -> bool
+    ensures { result ≡ D.is_by deadline now }
+{
+    deadline.is_some_and(|t| t <= now)
+}
 
-    // The earlier of two.
-    #[tactic(auto, unfolding(crate::specs::Deadlines::sooner))]
-    pub fn sooner(self, other: Deadline) -> Deadline
-        ensures { result ≡ D.sooner self other }
-    {
-        match self {
-            Deadline::Never => other,
-            Deadline::At(t) => match other {
-                Deadline::Never => self,
-                Deadline::At(u) => {
-                    if u.precedes(t) {
-                        return other;
-                    }
-                    self
-                }
-            },
-        }
+// The earlier of two.
+#[tactic(auto, unfolding(crate::specs::Deadlines::sooner))]
+pub fn sooner(one: Option<Time>, other: Option<Time>) -> Option<Time>
+    ensures { result ≡ D.sooner one other }
+{
+    match (one, other) {
+        (Some(t), Some(u)) => Some(t.min(u)),
+        (None, _) => other,
+        (_, None) => one,
     }
+}
 
-    // None where it is at this moment, else itself.
-    #[tactic(auto, unfolding(crate::specs::Deadlines::unless_at))]
-    pub fn unless_at(self, now: Time) -> Deadline
-        ensures { result ≡ D.unless_at self now }
-    {
-        if self.is_at(now) {
-            return Deadline::Never;
-        }
-        self
-    }
+// None where it is at this moment, else itself.
+#[tactic(auto, unfolding(crate::specs::Deadlines::unless_at))]
+pub fn unless_at(deadline: Option<Time>, now: Time) -> Option<Time>
+    ensures { result ≡ D.unless_at deadline now }
+{
+    if is_at(deadline, now) { None } else { deadline }
+}
 
-    // Later by a length, where it is set.
-    #[tactic(auto, unfolding(crate::specs::Deadlines::later))]
-    pub fn later(self, by: Duration) -> Deadline
-        ensures { result ≡ D.later self by }
-    {
-        match self {
-            Deadline::At(t) => Deadline::At(t.plus(by)),
-            Deadline::Never => Deadline::Never,
-        }
-    }
+// Later by a length, where it is set.
+#[tactic(auto, unfolding(crate::specs::Deadlines::later))]
+pub fn later(deadline: Option<Time>, by: Duration) -> Option<Time>
+    ensures { result ≡ D.later deadline by }
+{
+    deadline.map(|t| t.plus(by))
 }
 
 impl Deadlines {
@@ -106,160 +78,57 @@ impl Deadlines {
         ensures { result ≡ D.never }
     {
         Deadlines {
-            serial_ready: Deadline::Never,
-            wake: Deadline::Never,
-            pause: Deadline::Never,
-            quiet: Deadline::Never,
-            irq_hold: Deadline::Never,
-            image: Deadline::Never,
+            serial_ready: None,
+            wake: None,
+            pause: None,
+            quiet: None,
+            irq_hold: None,
+            image: None,
         }
     }
 
-    pub fn with_serial_ready(self, d: Deadline) -> Deadlines
-        ensures { result ≡ D.with_serial_ready self d }
+    // One of them is set anew.
+    pub fn with(self, wait: Wait, due: Option<Time>) -> Deadlines
+        ensures { result ≡ D.with_wait wait self due }
     {
-        let wake = self.wake;
-        let pause = self.pause;
-        let quiet = self.quiet;
-        let irq_hold = self.irq_hold;
-        let image = self.image;
-        Deadlines {
-            serial_ready: d,
-            wake,
-            pause,
-            quiet,
-            irq_hold,
-            image,
-        }
-    }
-
-    pub fn with_wake(self, d: Deadline) -> Deadlines
-        ensures { result ≡ D.with_wake self d }
-    {
-        let serial_ready = self.serial_ready;
-        let pause = self.pause;
-        let quiet = self.quiet;
-        let irq_hold = self.irq_hold;
-        let image = self.image;
-        Deadlines {
-            serial_ready,
-            wake: d,
-            pause,
-            quiet,
-            irq_hold,
-            image,
-        }
-    }
-
-    pub fn with_pause(self, d: Deadline) -> Deadlines
-        ensures { result ≡ D.with_pause self d }
-    {
-        let serial_ready = self.serial_ready;
-        let wake = self.wake;
-        let quiet = self.quiet;
-        let irq_hold = self.irq_hold;
-        let image = self.image;
-        Deadlines {
-            serial_ready,
-            wake,
-            pause: d,
-            quiet,
-            irq_hold,
-            image,
-        }
-    }
-
-    pub fn with_quiet(self, d: Deadline) -> Deadlines
-        ensures { result ≡ D.with_quiet self d }
-    {
-        let serial_ready = self.serial_ready;
-        let wake = self.wake;
-        let pause = self.pause;
-        let irq_hold = self.irq_hold;
-        let image = self.image;
-        Deadlines {
-            serial_ready,
-            wake,
-            pause,
-            quiet: d,
-            irq_hold,
-            image,
-        }
-    }
-
-    pub fn with_irq_hold(self, d: Deadline) -> Deadlines
-        ensures { result ≡ D.with_irq_hold self d }
-    {
-        let serial_ready = self.serial_ready;
-        let wake = self.wake;
-        let pause = self.pause;
-        let quiet = self.quiet;
-        let image = self.image;
-        Deadlines {
-            serial_ready,
-            wake,
-            pause,
-            quiet,
-            irq_hold: d,
-            image,
-        }
-    }
-
-    pub fn with_image(self, d: Deadline) -> Deadlines
-        ensures { result ≡ D.with_image self d }
-    {
-        let serial_ready = self.serial_ready;
-        let wake = self.wake;
-        let pause = self.pause;
-        let quiet = self.quiet;
-        let irq_hold = self.irq_hold;
-        Deadlines {
-            serial_ready,
-            wake,
-            pause,
-            quiet,
-            irq_hold,
-            image: d,
+        match wait {
+            Wait::SerialReady => Deadlines {
+                serial_ready: due,
+                ..self
+            },
+            Wait::Wake => Deadlines { wake: due, ..self },
+            Wait::Pause => Deadlines { pause: due, ..self },
+            Wait::Quiet => Deadlines { quiet: due, ..self },
+            Wait::IrqHold => Deadlines {
+                irq_hold: due,
+                ..self
+            },
+            Wait::Image => Deadlines { image: due, ..self },
         }
     }
 
     // The earliest of these, of the next sample and of the end of a stored write.
-    #[tactic(auto, unfolding(crate::specs::Deadlines::earliest, crate::specs::Deadlines::first))]
-    pub fn earliest(self, sample: Deadline, write: Deadline) -> Deadline
+    #[tactic(auto, unfolding(crate::specs::Deadlines::earliest, crate::specs::Deadlines::first), using(crate::proofs::Theorems::Earliest::sooner_never))]
+    pub fn earliest(self, sample: Option<Time>, write: Option<Time>) -> Option<Time>
         ensures { result ≡ D.earliest self sample write }
     {
-        let serial_ready = self.serial_ready;
-        let wake = self.wake;
-        let pause = self.pause;
-        let quiet = self.quiet;
-        let irq_hold = self.irq_hold;
-        let image = self.image;
-        let mut first = write.sooner(image);
-        first = irq_hold.sooner(first);
-        first = quiet.sooner(first);
-        first = pause.sooner(first);
-        first = wake.sooner(first);
-        first = sample.sooner(first);
-        serial_ready.sooner(first)
+        let ended = sooner(write, self.image);
+        let unheld = sooner(self.quiet, sooner(self.irq_hold, ended));
+        let awake = sooner(self.wake, sooner(self.pause, unheld));
+        sooner(self.serial_ready, sooner(sample, awake))
     }
 
     // Each wait later by the length of a supply drop; the wake, which begins anew, as it is.
     pub fn shifted(self, by: Duration) -> Deadlines
         ensures { result ≡ D.shifted self by }
     {
-        let serial_ready = self.serial_ready;
-        let wake = self.wake;
-        let pause = self.pause;
-        let quiet = self.quiet;
-        let irq_hold = self.irq_hold;
-        let image = self.image;
         Deadlines {
-            serial_ready: serial_ready.later(by),
-            wake,
-            pause: pause.later(by),
-            quiet: quiet.later(by),
-            irq_hold: irq_hold.later(by),
-            image: image.later(by),
+            serial_ready: later(self.serial_ready, by),
+            wake: self.wake,
+            pause: later(self.pause, by),
+            quiet: later(self.quiet, by),
+            irq_hold: later(self.irq_hold, by),
+            image: later(self.image, by),
         }
     }
 }

@@ -1,24 +1,24 @@
 -- The parts of a sensor that samples, reads, waits and ordinary register writes leave as they are.
-use Rattle.std.specs.Prelude.{◌≡◌, List, ℕ}
+use Rattle.time.specs.declared.Time.{Time}
+use Rattle.sensor.specs.Operation.{Operation}
+use Rattle.std.specs.Prelude.{◌≡◌, List, ℕ, Option}
 use Rattle.i2c.specs.declared.types.State.{State}
 use Rattle.spi.specs.declared.types.Frame.{Frame}
 use Rattle.spi.specs.Frame as F
-use Rattle.deadlines.specs.declared.Deadline.{Deadline}
 use Rattle.sensor.specs.declared.types.Kept.{Kept}
-use Rattle.sensor.specs.declared.types.Writing.{Writing}
 use Rattle.sensor.specs.declared.types.Supply.{Supply}
 use Rattle.sensor.specs.declared.types.Sensor.{Sensor}
 
 -- the stored bytes and the running write, the supply, what is kept, the I2C engine, the SPI frame but for its driver (sleep releases it), and how long the pins are dead or quiet
 pub record Core : Type 0 where
   pub cells : List ℕ
-  pub writing : Writing
+  pub writing : Operation
   pub supply : Supply
   pub kept : Kept
   pub i2c : State
   pub frame : Frame
-  pub serial_ready : Deadline
-  pub quiet : Deadline
+  pub serial_ready : Option Time
+  pub quiet : Option Time
 
 abbrev pub core : Sensor → Core
 core s = record {

@@ -1,5 +1,5 @@
 -- What an axis shows and whether that is a mean: value and mark change only together.
-use Rattle.std.specs.Prelude.{ℕ, suc, ◌/◌, ◌<◌, ◌≡◌, Bool, true, false, List, ℤ, length, get_or, set, replicate}
+use Rattle.std.specs.Prelude.{ℕ, suc, ◌/◌, ◌<◌, ◌≡◌, Bool, true, false, List, ℤ, length, get_or, set, replicate, Some, None}
 use Rattle.laws.specs.Notation.{Image}
 use Rattle.time.specs.declared.Time.{Time}
 use Rattle.time.specs.declared.Duration.{Duration}
@@ -9,7 +9,6 @@ use Rattle.filter.specs.Filter.{window, made, selected, pushed, last_codes, full
 use Rattle.registers.specs.Map.{at, acc_lsb, acc_msb, measurement, bandwidth}
 use Rattle.registers.specs.Codes.{code_low, code_high}
 use Rattle.sampling.specs.declared.types.Input.{Input}
-use Rattle.sampling.specs.declared.types.Test.TheVariants.{Off, Phases}
 use Rattle.sampling.specs.declared.types.Acquisition.{Acquisition}
 use Rattle.sampling.specs.Phase as Phase
 use Rattle.sensor.specs.declared.types.Sensor.{Sensor}
@@ -88,10 +87,10 @@ pub record Marks : Type 0 where
   pub return_single : (s : Sensor) (now : Time) → Emptied (power_on s now)
   pub reset_single : (s : Sensor) (now : Time) → Emptied (soft_reset s now)
   -- an edge whose phase is an axis's, while no self test runs; else none
-  pub phase : (c : Acquisition) (input : Input) (needs : List ℕ) (axis : ℕ) → next_phase c ≡ suc axis → c.sampling.test ≡ Off
+  pub phase : (c : Acquisition) (input : Input) (needs : List ℕ) (axis : ℕ) → next_phase c ≡ suc axis → c.sampling.test ≡ None
       → Sampled c (Phase.sample input needs c) axis (converts c input axis)
   pub temperature : (c : Acquisition) (input : Input) (needs : List ℕ) → next_phase c ≡ 0 → Passed c (Phase.sample input needs c)
-  pub self_test : (c : Acquisition) (input : Input) (needs : List ℕ) (left : ℕ) → c.sampling.test ≡ Phases left → Passed c (Phase.sample input needs c)
+  pub self_test : (c : Acquisition) (input : Input) (needs : List ℕ) (left : ℕ) → c.sampling.test ≡ Some left → Passed c (Phase.sample input needs c)
   -- a wake keeps the mark with the value that it marks
   pub wake_keeps : (s : Sensor) (now : Time) (ready : Duration) → Unsampled s (start_acquisition s now ready)
 
@@ -108,7 +107,7 @@ pub data Course (r : Sensor) : Sensor → Type 0 where
 -- the clock's next edge is a sample of the axis: its phase is the axis's, and no self test runs
 pub record Samples (t : Sensor) (axis : ℕ) : Type 0 where
   pub phase : next_phase (acquisition t) ≡ suc axis
-  pub no_test : t.sampling.test ≡ Off
+  pub no_test : t.sampling.test ≡ None
 
 -- the code that it converts then
 abbrev pub code_of : (t : Sensor) (axis : ℕ) → ℤ

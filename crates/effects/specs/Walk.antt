@@ -1,5 +1,5 @@
 -- What a call does to a sensor, in steps: a relation between sensors that each step meets is met by every call (`Theorems.Walk`).
-use Rattle.std.specs.Prelude.{ℕ, ◌≡◌, Bool, true, false, ℤ}
+use Rattle.std.specs.Prelude.{ℕ, ◌≡◌, Bool, true, false, ℤ, Option, Some, None}
 use Rattle.time.specs.declared.Time.{Time}
 use Rattle.time.specs.declared.Duration.{Duration}
 use Rattle.time.specs.Time.{plus, from_micros}
@@ -8,10 +8,8 @@ use Rattle.interrupts.specs.State as I
 use Rattle.i2c.specs.declared.types.Levels.{Levels}
 use Rattle.i2c.specs.declared.types.Edge.{Edge}
 use Rattle.i2c.specs.Engine as E
-use Rattle.spi.specs.declared.types.Sent.{Sent}
 use Rattle.spi.specs.Frame as F
 use Rattle.reads.specs.Reads as Reads
-use Rattle.deadlines.specs.declared.Deadline.TheVariants.{At, Never}
 use Rattle.deadlines.specs.Deadlines.{with_irq_hold, with_image, with_wake, shifted}
 use Rattle.control.specs.declared.types.WriteKind.TheVariants as WriteKind
 use Rattle.control.specs.declared.types.SelfTest.TheVariants as SelfTest
@@ -19,7 +17,6 @@ use Rattle.control.specs.Kinds as Kinds
 use Rattle.registers.specs.Map.{control, operation}
 use Rattle.sampling.specs.Phase.{with_clock}
 use Rattle.time.specs.Clock as Clock
-use Rattle.sensor.specs.declared.types.Operation.TheVariants as Operation
 use Rattle.sensor.specs.declared.types.Sensor.{Sensor}
 use Rattle.sensor.specs.Record.{with_frame, with_i2c, with_reads, with_sampling, with_deadlines, with_interrupts, with_supply, with_lines, put, is_quiet, four_wire, is_off, with_cycles, with_ready}
 use Rattle.sensor.specs.Image.{shadowing, copy_image, power_on}
@@ -41,15 +38,15 @@ pub record Steps (now : Time) (R : Sensor → Sensor → Type 0) : Type 0 where
   -- ---- acquisition, pauses, automatic mode
   pub acquires : (s : Sensor) (ready : Duration) → R s (start_acquisition s now ready)
   pub pauses : (s : Sensor) → R s (pause s now)
-  pub holds : (s : Sensor) → R s (with_deadlines s (with_irq_hold s.deadlines (At (plus now (from_micros 330)))))
+  pub holds : (s : Sensor) → R s (with_deadlines s (with_irq_hold s.deadlines (Some (plus now (from_micros 330)))))
   pub manual : (s : Sensor) → R s (automatic_off s)
   -- ---- register writes
   pub recounts : (s : Sensor) → R s (with_interrupts (with_sampling s (with_cycles s.sampling 0)) (I.restart_acquisition s.interrupts))
-  pub drops_hold : (s : Sensor) → R s (with_deadlines s (with_irq_hold s.deadlines Never))
-  pub resets : (s : Sensor) → R s (with_interrupts (with_deadlines (with_sampling s (with_ready s.sampling false)) (with_irq_hold s.deadlines Never)) (I.reset s.interrupts s.registers))
+  pub drops_hold : (s : Sensor) → R s (with_deadlines s (with_irq_hold s.deadlines None))
+  pub resets : (s : Sensor) → R s (with_interrupts (with_deadlines (with_sampling s (with_ready s.sampling false)) (with_irq_hold s.deadlines None)) (I.reset s.interrupts s.registers))
   pub test_starts : (s : Sensor) → R s (tested SelfTest.Starts s)
   pub test_stops : (s : Sensor) → R s (tested SelfTest.Stops s)
-  pub copy_begins : (s : Sensor) → R s (with_deadlines s (with_image s.deadlines (At (plus now (from_micros 300)))))
+  pub copy_begins : (s : Sensor) → R s (with_deadlines s (with_image s.deadlines (Some (plus now (from_micros 300)))))
   pub controls : (s : Sensor) (value : ℕ) → R s (put s control (Kinds.kept value))
   pub operates : (s : Sensor) (value : ℕ) → R s (with_reads (put s operation value) (shadowing s.reads value))
   pub measures : (s : Sensor) (value : ℕ) → R s (measurement_written s value)
@@ -63,26 +60,26 @@ pub record Steps (now : Time) (R : Sensor → Sensor → Type 0) : Type 0 where
   pub reads : (s : Sensor) (address sent : ℕ) → counts_as_read s address ≡ true → R s (acceleration_read s address sent)
   pub reselects : (s : Sensor) (selected : Bool) → R s (reselected s selected)
   -- ---- the SPI frame and the I2C engine
-  pub shifts : (s : Sensor) (sent : Sent) → R s (with_frame s (F.shifted s.frame sent))
+  pub shifts : (s : Sensor) (sent : Option ℕ) → R s (with_frame s (F.shifted s.frame sent))
   pub turns : (s : Sensor) → R s (with_frame s (F.turned s.frame))
   pub takes : (s : Sensor) (mosi : Bool) → R s (with_frame s (F.take_bit s.frame mosi (four_wire s)).frame)
-  pub sends : (s : Sensor) (sent : Sent) → R s (with_frame s (F.sending s.frame sent))
+  pub sends : (s : Sensor) (sent : Option ℕ) → R s (with_frame s (F.sending s.frame sent))
   pub steps : (s : Sensor) (e : Edge) → R s (with_i2c s (E.step s.i2c e (is_quiet s) (ones_for s.frame.tx)).state)
   pub aborts : (s : Sensor) → R s (with_i2c s (E.aborted s.i2c))
   pub acknowledges : (s : Sensor) → R s (with_i2c s (E.written s.i2c (is_quiet s)))
   pub launches : (s : Sensor) (byte : ℕ) → R s (with_i2c s (E.launched s.i2c byte))
   -- ---- due moments
   pub waits_end : (s : Sensor) → R s (waits_ended s now)
-  pub completes : (s : Sensor) (w : WriteCycle) (address value : ℕ) → s.writing.operation ≡ Operation.Running w address value → R s (write_over s address value)
+  pub completes : (s : Sensor) (w : WriteCycle) (address value : ℕ) → s.writing ≡ Some (w, address, value) → R s (write_over s address value)
   pub copies : (s : Sensor) → R s (copy_image s)
   pub loads : (s : Sensor) → R s (image_loaded s)
-  pub wakes : (s : Sensor) → R s (with_sampling (with_deadlines s (with_wake s.deadlines Never)) (with_clock s.sampling (Clock.started now)))
+  pub wakes : (s : Sensor) → R s (with_sampling (with_deadlines s (with_wake s.deadlines None)) (with_clock s.sampling (Clock.started now)))
   -- ---- supply, acceleration, temperature and what is kept of the lines
   pub stops : (s : Sensor) → R s (held s now)
-  pub cuts : (s : Sensor) (w : WriteCycle) (address value : ℕ) → s.writing.operation ≡ Operation.Running w address value → R s (write_over s address (torn w s address value now))
-  pub goes_off : (s : Sensor) (cold : Bool) → R s (with_supply s (record { unpowered_since = At now; cold = cold }))
+  pub cuts : (s : Sensor) (w : WriteCycle) (address value : ℕ) → s.writing ≡ Some (w, address, value) → R s (write_over s address (torn w s address value now))
+  pub goes_off : (s : Sensor) (cold : Bool) → R s (with_supply s (record { unpowered_since = Some now; cold = cold }))
   pub meets_zero : (s : Sensor) → is_off s ≡ true → R s (with_supply s (record { unpowered_since = s.supply.unpowered_since; cold = true }))
-  pub comes_back : (s : Sensor) → is_off s ≡ true → R s (with_supply (with_deadlines s (shifted s.deadlines (outage s.supply.unpowered_since now))) (record { unpowered_since = Never; cold = s.supply.cold }))
+  pub comes_back : (s : Sensor) → is_off s ≡ true → R s (with_supply (with_deadlines s (shifted s.deadlines (outage s.supply.unpowered_since now))) (record { unpowered_since = None; cold = s.supply.cold }))
   pub powers_on : (s : Sensor) → is_off s ≡ true → R s (power_on s now)
   pub sets : (s : Sensor) (x y z : ℤ) → R s (set_input s x y z now)
   pub follows : (s : Sensor) (lines : Levels) → R s (with_lines s lines)

@@ -1,6 +1,5 @@
 -- Lists of calls that are the course of one bus: each call begins where the one before it left the pins.
-use Rattle.std.specs.Prelude.{◌≡◌, Bool, true, false, List, [], ◌∷◌, if◌then◌else◌}
-use Rattle.std.proofs.Math.Option.{Option, none, some}
+use Rattle.std.specs.Prelude.{◌≡◌, Bool, true, false, List, [], ◌∷◌, if◌then◌else◌, Option, Some, None}
 use Rattle.i2c.specs.declared.types.Levels.{Levels}
 use Rattle.calls.specs.declared.types.Timed.{Timed}
 use Rattle.calls.specs.declared.types.Call.{Call}
@@ -8,8 +7,8 @@ use Rattle.calls.specs.Table.{same_levels}
 
 -- one call, by what it makes of the pins; none where it does not fit
 unfoldable pub moved : {A : Type 0} → (A → Call → Option A) → Option A → Call → Option A
-moved next none c = none
-moved next (some p) c = next p c
+moved next None c = None
+moved next (Some p) c = next p c
 
 -- the pins after a list; none where one of its calls does not fit
 unfoldable pub course : {A : Type 0} → (A → Call → Option A) → List Call → Option A → Option A
@@ -28,24 +27,24 @@ spi selected clock = record { selected = selected; clock = clock }
 
 -- an edge of the clock: it falls where it is high and rises where it is low; no other timed call fits
 unfoldable pub spi_edge : SpiPins → Timed → Option SpiPins
-spi_edge p (Timed.Accelerations x y z) = none
-spi_edge p (Timed.Supply rail) = none
-spi_edge p Timed.Due = none
-spi_edge p (Timed.Rising mosi) = if p.clock then none else some (spi p.selected true)
-spi_edge p Timed.Falling = if p.clock then some (spi p.selected false) else none
-spi_edge p (Timed.Pins before after) = none
+spi_edge p (Timed.Accelerations x y z) = None
+spi_edge p (Timed.Supply rail) = None
+spi_edge p Timed.Due = None
+spi_edge p (Timed.Rising mosi) = if p.clock then None else Some (spi p.selected true)
+spi_edge p Timed.Falling = if p.clock then Some (spi p.selected false) else None
+spi_edge p (Timed.Pins before after) = None
 
 -- a call of SPI: select or an edge; no other call fits
 unfoldable pub spi_call : SpiPins → Call → Option SpiPins
 spi_call p (Call.At now t) = spi_edge p t
-spi_call p (Call.Temperature x) = none
-spi_call p (Call.Select on) = some (spi on p.clock)
-spi_call p (Call.View address) = none
-spi_call p (Call.StoredImage now length) = none
+spi_call p (Call.Temperature x) = None
+spi_call p (Call.Select on) = Some (spi on p.clock)
+spi_call p (Call.View address) = None
+spi_call p (Call.StoredImage now length) = None
 
 -- a list of SPI calls alone, from the pins at rest to the selected sensor with its clock high
 abbrev pub OverSpi : List Call → Type 0
-OverSpi cs = course spi_call cs (some (spi false true)) ≡ some (spi true true)
+OverSpi cs = course spi_call cs (Some (spi false true)) ≡ Some (spi true true)
 
 -- ---- I2C: the two lines
 
@@ -55,21 +54,21 @@ lines scl sda = record { scl = scl; sda = sda }
 
 -- a report begins at the levels that the lines have; no other timed call fits
 unfoldable pub i2c_report : Levels → Timed → Option Levels
-i2c_report l (Timed.Accelerations x y z) = none
-i2c_report l (Timed.Supply rail) = none
-i2c_report l Timed.Due = none
-i2c_report l (Timed.Rising mosi) = none
-i2c_report l Timed.Falling = none
-i2c_report l (Timed.Pins before after) = if same_levels l before then some after else none
+i2c_report l (Timed.Accelerations x y z) = None
+i2c_report l (Timed.Supply rail) = None
+i2c_report l Timed.Due = None
+i2c_report l (Timed.Rising mosi) = None
+i2c_report l Timed.Falling = None
+i2c_report l (Timed.Pins before after) = if same_levels l before then Some after else None
 
 -- a call of I2C: a report; no other call fits
 unfoldable pub i2c_call : Levels → Call → Option Levels
 i2c_call l (Call.At now t) = i2c_report l t
-i2c_call l (Call.Temperature x) = none
-i2c_call l (Call.Select on) = none
-i2c_call l (Call.View address) = none
-i2c_call l (Call.StoredImage now length) = none
+i2c_call l (Call.Temperature x) = None
+i2c_call l (Call.Select on) = None
+i2c_call l (Call.View address) = None
+i2c_call l (Call.StoredImage now length) = None
 
 -- a list of I2C reports alone, from both lines high to both low after a byte's ninth clock
 abbrev pub OverI2c : List Call → Type 0
-OverI2c cs = course i2c_call cs (some (lines true true)) ≡ some (lines false false)
+OverI2c cs = course i2c_call cs (Some (lines true true)) ≡ Some (lines false false)

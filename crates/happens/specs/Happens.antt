@@ -1,11 +1,10 @@
 -- Every stored write happens, and every cut of it: what is claimed.
-use Rattle.std.specs.Prelude.{ℕ, ◌+◌, ◌-◌, ◌^◌, ◌<◌, ◌≤◌, ◌≡◌, List}
+use Rattle.std.specs.Prelude.{ℕ, ◌+◌, ◌-◌, ◌^◌, ◌<◌, ◌≤◌, ◌≡◌, List, Some}
 use Rattle.time.specs.declared.Time.{Time}
 use Rattle.time.specs.Time.{ticks}
 use Rattle.nv.specs.Cell.{write_length, cell_number, byte}
 use Rattle.nv.specs.Cycle as Cycle
 use Rattle.calls.specs.declared.types.Call.{Call}
-use Rattle.sensor.specs.declared.types.Operation.TheVariants as Operation
 use Rattle.sensor.specs.Image.{cell_byte, with_cell}
 use Rattle.bma150.specs.Called.{Added, start_number}
 use Rattle.book.specs.Lists.{Start, started, after, accepted, Returns}
@@ -26,7 +25,7 @@ pub record Wanted (b : Start) (address value : ℕ) (at : Time) : Type 0 where
 pub record Happens (Over : List Call → Type 0) (b : Start) (address value : ℕ) (at : Time) : Type 0 where
   pub calls : List Call
   pub over : Over calls
-  pub begun : (after (started b) calls).sensor.writing.operation ≡ Operation.Running (Cycle.start b.time) address value
+  pub begun : (after (started b) calls).sensor.writing ≡ Some (Cycle.start b.time, address, value)
   pub all_accepted : accepted (started b) (ending calls at 0) ≡ ending calls at 0
   pub returns : Returns b (ending calls at 0) at 2400
   pub stored : stored_bytes b (ending calls at 0) at 2400

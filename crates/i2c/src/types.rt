@@ -1,7 +1,7 @@
 // The types of the I2C engine. Names are the Rust's (bma150/i2c.rs), but for what it writes as an `Option` or an array.
 
 // The two lines, true where high: the clock (the part's SCK) and the data (its SDI).
-#[derive(Clone, Copy)]
+#[derive(Clone, Copy, PartialEq, Eq)]
 pub struct Levels {
     pub scl: bool,
     pub sda: bool,

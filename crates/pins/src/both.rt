@@ -2,7 +2,7 @@
 use i2c::types::State;
 use registers::access::{Gate, ignores, stored, withheld};
 use registers::fields::{SOFT_RESET, SPI4, has};
-use spi::types::{Drive, Frame, Sent};
+use spi::types::{Drive, Frame, Option<u8>};
 
 // `operation` is the stored byte of register 15. `awake`: no soft reset since the start, so a sample is next. `consumed`,
 // `hidden` and `viewed` are what the last event answers beside the pins.
@@ -66,10 +66,10 @@ pub(crate) fn start(operation: u8) -> Sensor {
     }
 }
 
-fn is_nothing(tx: Sent) -> bool {
+fn is_nothing(tx: Option<u8>) -> bool {
     match tx {
-        Sent::Nothing => true,
-        Sent::Byte(_) => false,
+        None => true,
+        Some(_) => false,
     }
 }
 
@@ -117,14 +117,14 @@ impl Sensor {
     }
 
     // The byte of a register, or none where a read is withheld.
-    pub(crate) fn fetched(self, address: u8) -> Sent {
+    pub(crate) fn fetched(self, address: u8) -> Option<u8> {
         if withheld(address, self.gate()) {
-            return Sent::Nothing;
+            return None;
         }
         if 62 <= address {
-            return Sent::Nothing;
+            return None;
         }
-        Sent::Byte(self.registers[address as usize])
+        Some(self.registers[address as usize])
     }
 
     // The first bit of a register's byte is taken: new_data of its axis clears.
@@ -151,7 +151,7 @@ impl Sensor {
 
     fn reset(self) -> Sensor {
         let f = self.frame;
-        let g = f.sending(Sent::Nothing);
+        let g = f.sending(None);
         Sensor {
             i2c: State::new(),
             frame: g.released(),

@@ -4,13 +4,13 @@
 use crate::both::{Sensor, start};
 use i2c::types::{Action, Levels};
 use registers::fields::has;
-use spi::types::{Clocked, FirstBit, Sent, Shift, Write};
+use spi::types::{Clocked, Option<u8>, Option<u8>, Shift, Write};
 
 // The byte that I2C sends: ones where there is none.
-fn sent_byte(tx: Sent) -> u8 {
+fn sent_byte(tx: Option<u8>) -> u8 {
     match tx {
-        Sent::Nothing => 0xff,
-        Sent::Byte(b) => b,
+        None => 0xff,
+        Some(b) => b,
     }
 }
 
@@ -48,7 +48,7 @@ impl Sensor {
 
     fn dropped(self) -> Sensor {
         let f = self.frame;
-        self.with_frame(f.sending(Sent::Nothing))
+        self.with_frame(f.sending(None))
     }
 
     fn acted(self, action: Action) -> Sensor {
@@ -114,15 +114,15 @@ impl Sensor {
         let f = self.frame;
         let a = f.first_bit();
         match a {
-            FirstBit::Nothing => self,
-            FirstBit::Register(address) => self.noted(address),
+            None => self,
+            Some(address) => self.noted(address),
         }
     }
 
-    fn spi_written(self, w: Write) -> Sensor {
+    fn spi_written(self, w: Option<(u8, u8)>) -> Sensor {
         match w {
-            Write::Nothing => self,
-            Write::Register(a, v) => self.written(a, v),
+            None => self,
+            Some((a, v)) => self.written(a, v),
         }
     }
 
@@ -168,11 +168,11 @@ impl Sensor {
         let mut s = self;
         let seen = self.fetched(address);
         match seen {
-            Sent::Nothing => {
+            None => {
                 s.hidden = true;
                 s
             }
-            Sent::Byte(b) => {
+            Some(b) => {
                 s.viewed = b;
                 s
             }

@@ -1,6 +1,5 @@
 -- The bench program's line of a command is a function of its call's answer in the sense of demand 3.
-use Rattle.std.specs.Prelude.{◌≡◌, Bool, List, [], ◌∷◌, ◌++◌, ℕ}
-use Rattle.std.proofs.Math.Option.{Option, none, some}
+use Rattle.std.specs.Prelude.{◌≡◌, Bool, List, [], ◌∷◌, ◌++◌, ℕ, Option, Some, None}
 use Rattle.laws.specs.Notation.{Image}
 use Rattle.deadlines.specs.Deadlines.{moment}
 use Rattle.calls.specs.declared.types.Call.{Call}
@@ -14,9 +13,9 @@ use Rattle.bench.specs.Line as L
 
 -- the call of a command; a start begins another list, a bad command calls nothing
 unfoldable pub call_of : Command → Option Call
-call_of (Command.Start by t) = none
-call_of (Command.Host c) = some c
-call_of Command.Bad = none
+call_of (Command.Start by t) = None
+call_of (Command.Host c) = Some c
+call_of Command.Bad = None
 
 -- interrupt, four-wire output, data pin
 abbrev pins_of : Answer → List ℕ
@@ -28,5 +27,5 @@ text_of trace b a = hex b ++ (space ∷ []) ++ word a.number ++ pins_of a ++ L.a
 
 -- the command leaves the call's sensor, and its line is that of the call's answer
 abbrev pub Prints : (trace : Bool) (b : ℕ) → Bma150 → Command → (image : Image) → Option Call → Type 0
-Prints trace b s c image none = Unit {0}
-Prints trace b s c image (some call) = (L.step s c image ≡ C.step s call) × (L.said trace b s c image ≡ text_of trace b (answer s call))
+Prints trace b s c image None = Unit {0}
+Prints trace b s c image (Some call) = (L.step s c image ≡ C.step s call) × (L.said trace b s c image ≡ text_of trace b (answer s call))

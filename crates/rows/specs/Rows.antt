@@ -1,5 +1,6 @@
 -- The marked rows of 01: each value computed from the definition that the contracts cite, beside the number that 01 prints.
-use Rattle.std.specs.Prelude.{ℕ, ◌^◌, true, false, List, [], ◌∷◌, get_or, ℤ, pos, negsuc}
+use Rattle.time.specs.declared.Time.{Time}
+use Rattle.std.specs.Prelude.{ℕ, ◌^◌, true, false, List, [], ◌∷◌, get_or, ℤ, pos, negsuc, Option, Some, None}
 use Rattle.laws.specs.Notation.{Address}
 use Rattle.laws.specs.Rows.{Row, answer}
 use Rattle.time.specs.Time.{ticks, time}
@@ -10,8 +11,6 @@ use Rattle.registers.specs.declared.access.Gate.{Gate}
 use Rattle.registers.specs.Access.{ignores, begins}
 use Rattle.registers.specs.Codes.{code}
 use Rattle.interrupts.specs.State.{axis}
-use Rattle.deadlines.specs.declared.Deadline.{Deadline}
-use Rattle.deadlines.specs.declared.Deadline.TheVariants.{At, Never}
 use Rattle.sensor.specs.declared.types.Sensor.{Sensor}
 use Rattle.sensor.specs.Record.{is_off}
 use Rattle.sensor.specs.Image.{from_nonvolatile, stock, new_kept}
@@ -29,9 +28,9 @@ edge_at n = pos (ticks (edge (time 0) n))
 abbrev new : Sensor
 new = from_nonvolatile (time 0) stock
 
-abbrev due_at : Deadline → ℤ
-due_at (At t) = pos (ticks t)
-due_at Never = negsuc 0
+abbrev due_at : Option Time → ℤ
+due_at (Some t) = pos (ticks t)
+due_at None = negsuc 0
 
 -- M11: off after a supply call
 abbrev off_at : (rail : ℕ) → ℤ
@@ -39,7 +38,7 @@ off_at rail = answer (is_off (Supply.set_supply new rail (time 0)).sensor)
 
 -- M12: the refusal of accelerations with this x, nothing due
 abbrev refused_axis : ℕ → ℤ
-refused_axis x = pos (refusal (time 0) Never new_kept.lines (Call.At (time 0) (Timed.Accelerations (pos x) (pos 0) (pos 0))))
+refused_axis x = pos (refusal (time 0) None new_kept.lines (Call.At (time 0) (Timed.Accelerations (pos x) (pos 0) (pos 0))))
 
 -- M4: window 4 (bandwidth 4), codes −1, 0, 0 and then 0
 abbrev fourth_answer : ℤ

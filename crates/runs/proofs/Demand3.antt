@@ -1,4 +1,5 @@
 -- Demand 3 of the code.
+use Rattle.std.specs.Prelude.{Option}
 use Prim.Native.Nat.{ℕ, ◌^◌, ◌<◌}
 use mathlib.Core.Path.{◌≡◌, refl, sym, ap, subst, ◌∙◌}
 use mathlib.Core.Bool.{Bool, true, false, cond}
@@ -9,7 +10,6 @@ use mathlib.Core.Option.{none}
 use lib.ListN.{length}
 use borrow.Author.Tests.{leb-true, le-leb, eqb-true, eq-eqb}
 use Rattle.time.specs.declared.Time.{Time}
-use Rattle.deadlines.specs.declared.Deadline.{Deadline}
 use Rattle.calls.specs.declared.types.Timed.TheVariants as Timed
 use Rattle.calls.specs.declared.types.Call.{Call}
 use Rattle.calls.proofs.Theorems.Left.{accepted_is, refused_is}
@@ -178,7 +178,7 @@ refused {b} {cs} r =
     let s = L.started b in
     subst (λ (k : Kept). Numbered b.time r.start.next_due k cs r.out) (started_kept b)
     (subst (λ (x : Time). Numbered x r.start.next_due s.sensor.kept cs r.out) t
-    (subst (λ (x : Deadline). Numbered s.last x s.sensor.kept cs r.out) (sym d)
+    (subst (λ (x : Option Time). Numbered s.last x s.sensor.kept cs r.out) (sym d)
     (subst (λ (l : List Answer). Numbered s.last (interaction_deadline s.sensor) s.sensor.kept cs l) (sym (out_is r)) (numbered s cs))))
 
 pub demand_3 : Demand3 functions

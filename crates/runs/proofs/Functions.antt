@@ -1,4 +1,5 @@
 -- The code's replies are the definitions', there is one to every call, and no contract asks anything.
+use Rattle.std.specs.Prelude.{Option, Some}
 use Prim.Native.Nat.{ℕ}
 use mathlib.Core.Path.{◌≡◌, refl, sym, ap, subst, ◌∙◌}
 use mathlib.Core.Bool.{Bool, true, false, cond}
@@ -14,12 +15,10 @@ use contract.Monad.{Fun}
 use Rattle.std.specs.Borrow.{Bor, MutBor}
 use Rattle.time.specs.declared.Time.{Time}
 use Rattle.i2c.specs.declared.types.Levels.{Levels}
-use Rattle.deadlines.specs.declared.Deadline.{Deadline}
 use Rattle.deadlines.proofs.Theorems.Earliest.{moment_injective}
 use Rattle.calls.specs.declared.types.Timed.{Timed}
 use Rattle.calls.specs.declared.types.Call.{Call}
 use Rattle.calls.specs.declared.types.Starting.{Starting}
-use Rattle.calls.specs.declared.types.Bytes.TheVariants as Bytes
 use Rattle.calls.specs.declared.types.Refusal.{Refusal}
 use Rattle.calls.specs.declared.types.Outcome.{Outcome}
 use Rattle.calls.specs.Facts.{facts}
@@ -117,7 +116,7 @@ accepted_answer : (o : Outcome) × (T.number o ≡ 0)
 unfolding T.number
 accepted_answer = (Outcome.Accepted, refl)
 
-outcome_of : (last : Time) (d : Deadline) (l : Levels) (c : Call) → (o : Outcome) × (T.number o ≡ T.refusal last d l c)
+outcome_of : (last : Time) (d : Option Time) (l : Levels) (c : Call) → (o : Outcome) × (T.number o ≡ T.refusal last d l c)
 unfolding T.refusal T.first_found T.refusal_number
 outcome_of last d l c =
     row_answer (T.wrong_length (facts c).bytes) Refusal.ImageLength
@@ -131,7 +130,7 @@ outcome_of last d l c =
 start_outcome : (by : Starting) (now : Time) (n m : ℕ) → (o : Outcome) × (T.number o ≡ T.start_refusal by now n m)
 unfolding T.start_refusal T.first_found T.refusal_number
 start_outcome by now n m =
-    row_answer (T.wrong_length (Bytes.Count n)) Refusal.ImageLength
+    row_answer (T.wrong_length (Some n)) Refusal.ImageLength
     (row_answer (T.turned_down by m) Refusal.ReservedCode
     (row_answer (T.late now) Refusal.TimeLimit accepted_answer))
 

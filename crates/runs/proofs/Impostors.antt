@@ -1,4 +1,5 @@
 -- Hosts that are wrong, each in one thing; demand 3 does not hold of them. They try the statement as must-fail edits try the code: one with fewer lists, fewer answers or less to say does not refuse them.
+use Rattle.std.specs.Prelude.{None}
 use Prim.Native.Nat.{ℕ, ◌+◌, ◌/◌, ◌^◌, ◌<◌}
 use native.Mathlib.Omega.{arith}
 use mathlib.Core.Path.{◌≡◌, refl, sym, ap, ◌∙◌}
@@ -11,7 +12,6 @@ use lib.ListN.{get_or}
 use Rattle.time.specs.declared.Time.{Time}
 use Rattle.time.specs.Time.{time}
 use Rattle.i2c.specs.declared.types.State.{State}
-use Rattle.deadlines.specs.declared.Deadline.TheVariants.{Never}
 use Rattle.calls.specs.declared.types.Timed.{Timed}
 use Rattle.calls.specs.declared.types.Call.{Call}
 use Rattle.sensor.specs.Record.{with_i2c, with_nonvolatile}
@@ -201,7 +201,7 @@ refused_calls_act = leaving (λ s c. record { sensor = (leaves s c).sensor; last
 
 -- nothing is ever due
 abbrev undue : Bma150 → Call → ℕ
-undue s c = T.refusal s.last Never s.sensor.kept.lines c
+undue s c = T.refusal s.last None s.sensor.kept.lines c
 
 abbrev pub nothing_due : Wrong
 nothing_due = record {
@@ -210,7 +210,7 @@ nothing_due = record {
   next = λ s c. T.unless_refused (undue s c) s (leaves s c);
   says = λ s c.
       let t = T.unless_refused (undue s c) s (leaves s c) in
-      record { number = undue s c; interrupt = interrupt t; output = output t; data_output = data_output t; adds = T.unless_refused (undue s c) Added.nothing (adds s c); next_due = Never };
+      record { number = undue s c; interrupt = interrupt t; output = output t; data_output = data_output t; adds = T.unless_refused (undue s c) Added.nothing (adds s c); next_due = None };
 }
 
 -- the I2C pointer outlives a return

@@ -1,6 +1,5 @@
 -- Demand 3 of 01, and what is delivered. docs/PROOF.md reads this file line by line.
-use Rattle.std.specs.Prelude.{ℕ, ◌%◌, ◌^◌, ◌≤◌, ◌<◌, ◌≡◌, true, false, List, [], ◌∷◌, ◌++◌, eqb, length, if◌then◌else◌}
-use Rattle.std.proofs.Math.Option.{Option, none, some}
+use Rattle.std.specs.Prelude.{ℕ, ◌%◌, ◌^◌, ◌≤◌, ◌<◌, ◌≡◌, true, false, List, [], ◌∷◌, ◌++◌, eqb, length, if◌then◌else◌, Option, Some, None}
 use seplogic.Ra.Ura.{Ura}
 use base.Logic.{SProp}
 use prog.Memory.{Memory}
@@ -9,7 +8,6 @@ use types.Logic.{Logic}
 use contract.Monad.{Fun}
 use Rattle.laws.specs.Bytes.{sent_bit}
 use Rattle.time.specs.declared.Time.{Time}
-use Rattle.deadlines.specs.declared.Deadline.{Deadline}
 use Rattle.calls.specs.declared.types.Timed.TheVariants as Timed
 use Rattle.calls.specs.declared.types.Call.{Call}
 use Rattle.calls.specs.Table.{refusal}
@@ -77,11 +75,11 @@ pub record Back {m : Host} {b : Start} {cs : List Call} (r : Ran m b cs) (now : 
 
 -- 01: a timed call moves the last accepted time
 unfoldable pub moved : (last : Time) → Option Time → Time
-moved last none = last
-moved last (some now) = now
+moved last None = last
+moved last (Some now) = now
 
 -- each number is that of 01's table, asked with the last accepted time, the next due that the run itself answered before, and the levels after the last accepted pin report
-abbrev pub Numbered : (last : Time) (due : Deadline) → Kept → List Call → List Answer → Type 0
+abbrev pub Numbered : (last : Time) (due : Option Time) → Kept → List Call → List Answer → Type 0
 Numbered last due k [] out = Unit {0}
 Numbered last due k (c ∷ cs) [] = Unit {0}
 Numbered last due k (c ∷ cs) (a ∷ out) =
@@ -115,7 +113,7 @@ pub record Delivered : Type 2 where
   pub lent_too : LentToo
   -- the stored bytes by the latest write: the starting byte if no write to the cell began, else what the latest one left; and none runs any more
   pub closed : {b : Start} {cs : List Call} {now : Time} {bytes : List ℕ} (r : Ran functions b cs) → Fractions cs → (k : Back r now bytes)
-      → let ws = writes b (ending cs now k.rail) in ((address : ℕ) → cell_byte bytes address ≡ told b.image address (latest address ws)) × (that_runs ws ≡ none)
+      → let ws = writes b (ending cs now k.rail) in ((address : ℕ) → cell_byte bytes address ≡ told b.image address (latest address ws)) × (that_runs ws ≡ None)
   -- every public function meets its contract on the machine, and no contract asks anything of its arguments
   pub contracts : Contracts
   pub ask_nothing : {M : Type 1} {𝓤 : Ura M} (𝓛 : Logic 𝓤) (memory : Memory → SProp 𝓤) (run : Routine → Fun 𝓤) → AskNothing 𝓤 𝓛 memory run

@@ -1,5 +1,5 @@
 -- The code as a host: the replies that the contracts of its public functions allow; that each contract is met on the machine; and that none asks anything.
-use Rattle.std.specs.Prelude.{ℕ, ◌≡◌, Bool, List, ℤ, length}
+use Rattle.std.specs.Prelude.{ℕ, ◌≡◌, Bool, List, ℤ, length, Option}
 use seplogic.Ra.Ura.{Ura}
 use base.Logic.{SProp, emp}
 use prog.Memory.{Memory}
@@ -14,7 +14,6 @@ use denote.Triple.Spec.{Spec}
 use Rattle.time.specs.declared.Time.{Time}
 use Rattle.i2c.specs.declared.types.Levels.{Levels}
 use Rattle.spi.specs.declared.types.Drive.{Drive}
-use Rattle.deadlines.specs.declared.Deadline.{Deadline}
 use Rattle.calls.specs.declared.types.Timed.{Timed}
 use Rattle.calls.specs.declared.types.Call.{Call}
 use Rattle.calls.specs.declared.types.Starting.TheVariants as Starting
@@ -92,7 +91,7 @@ pub record Pins : Type 0 where
   pub interrupt : Bool
   pub output : Drive
   pub data_output : Drive
-  pub next_due : Deadline
+  pub next_due : Option Time
 
 -- each is one that the observer's contract allows of the sensor t
 pub record Observed (t : Bma150) (o : Pins) : Type 0 where

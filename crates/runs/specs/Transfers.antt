@@ -1,6 +1,5 @@
 -- Runs in which one more bit completes a register write on a bus, and what that bit begins in the write book.
-use Rattle.std.specs.Prelude.{ℕ, ◌^◌, ◌<◌, ◌≡◌, Bool, true, false, List, [], ◌∷◌, ◌++◌, if◌then◌else◌}
-use Rattle.std.proofs.Math.Option.{some}
+use Rattle.std.specs.Prelude.{ℕ, ◌^◌, ◌<◌, ◌≡◌, Bool, true, false, List, [], ◌∷◌, ◌++◌, if◌then◌else◌, Some}
 use Rattle.laws.specs.Bytes.{sent_bit}
 use Rattle.time.specs.declared.Time.{Time}
 use Rattle.i2c.specs.declared.types.Levels.{Levels}
@@ -63,4 +62,4 @@ abbrev pub BeginsExactly : Start → (cs : List Call) (now : Time) → Timed →
 BeginsExactly b cs now t address value =
     let met : Sensor = sampled (sensor_after b cs).sensor now in
     (booked (opened b) (cs ++ (Call.At now t ∷ []))).running
-    ≡ (if begins address value (gate met) (is_writing met) then some (record { address = address; wanted = value; began = now }) else (booked (opened b) cs).running)
+    ≡ (if begins address value (gate met) (is_writing met) then Some (record { address = address; wanted = value; began = now }) else (booked (opened b) cs).running)

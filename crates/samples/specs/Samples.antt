@@ -1,16 +1,14 @@
 -- Next due, and samples up to a moment.
-use Rattle.std.specs.Prelude.{ℕ, Bool, false, not, ◌&&◌, eqb, if◌then◌else◌}
+use Rattle.sensor.specs.Operation.{Operation}
+use Rattle.std.specs.Prelude.{ℕ, Bool, false, not, ◌&&◌, eqb, if◌then◌else◌, Option, Some, None}
 use Rattle.time.specs.declared.Time.{Time}
 use Rattle.time.specs.Time.{next_unit}
 use Rattle.time.specs.Clock as Clock
 use Rattle.nv.specs.Cycle as Cycle
-use Rattle.deadlines.specs.declared.Deadline.{Deadline}
-use Rattle.deadlines.specs.declared.Deadline.TheVariants.{At, Never}
 use Rattle.deadlines.specs.Deadlines.{is_set, earliest}
 use Rattle.control.specs.Lengths.{needs}
 use Rattle.sampling.specs.declared.types.Acquisition.{Acquisition}
 use Rattle.sampling.specs.Phase as Phase
-use Rattle.sensor.specs.declared.types.Operation.{Operation}
 use Rattle.sensor.specs.declared.types.Sensor.{Sensor}
 use Rattle.sensor.specs.Record.{with_registers, with_sampling, with_interrupts, is_off, automatic}
 use Rattle.sensor.specs.Mode.{automatic_control}
@@ -21,22 +19,22 @@ use Rattle.sensor.specs.Mode.{automatic_control}
 unfoldable pub samples_run : Sensor → Bool
 samples_run s = not (is_off s) && (not s.sampling.asleep && not (is_set s.deadlines.wake))
 
-unfoldable pub next_sample : Sensor → Deadline
-next_sample s = if samples_run s then At (Clock.next s.sampling.clock) else Never
+unfoldable pub next_sample : Sensor → Option Time
+next_sample s = if samples_run s then Some (Clock.next s.sampling.clock) else None
 
 -- the end of a running write
-unfoldable pub write_end : Operation → Deadline
-write_end Operation.Idle = Never
-write_end (Operation.Running w a v) = At (Cycle.deadline w)
+unfoldable pub write_end : Operation → Option Time
+write_end None = None
+write_end (Some (w, a, v)) = Some (Cycle.deadline w)
 
-unfoldable pub sample_due : Sensor → (samples : Bool) → Deadline
-sample_due s samples = if samples then next_sample s else Never
+unfoldable pub sample_due : Sensor → (samples : Bool) → Option Time
+sample_due s samples = if samples then next_sample s else None
 
-unfoldable pub next_deadline : Sensor → (samples : Bool) → Deadline
-next_deadline s samples = if is_off s then Never else earliest s.deadlines (sample_due s samples) (write_end s.writing.operation)
+unfoldable pub next_deadline : Sensor → (samples : Bool) → Option Time
+next_deadline s samples = if is_off s then None else earliest s.deadlines (sample_due s samples) (write_end s.writing)
 
 -- 01: next due is `interaction_deadline`; samples are due calls in automatic mode only (the Rust's rule)
-abbrev pub interaction_deadline : Sensor → Deadline
+abbrev pub interaction_deadline : Sensor → Option Time
 interaction_deadline s = next_deadline s (automatic s)
 
 -- ---- samples

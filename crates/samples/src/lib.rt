@@ -11,12 +11,12 @@ use sensor::types::{Operation, Sensor};
 use time::Time;
 
 #[tactic(auto, unfolding(crate::specs::Samples::write_end))]
-fn write_end(operation: Operation) -> Deadline
+fn write_end(operation: Option<(WriteCycle, u8, u8)>) -> Option<Time>
     ensures { result ≡ S.write_end operation }
 {
     match operation {
-        Operation::Idle => Deadline::Never,
-        Operation::Running(w, _, _) => Deadline::At(w.deadline()),
+        None => None,
+        Some((w, _, _)) => Some(w.deadline()),
     }
 }
 
@@ -47,33 +47,33 @@ pub fn samples_run(sensor: Sensor) -> bool
 }
 
 #[tactic(auto, unfolding(crate::specs::Samples::next_sample))]
-pub fn next_sample(sensor: Sensor) -> Deadline
+pub fn next_sample(sensor: Sensor) -> Option<Time>
     ensures { result ≡ S.next_sample sensor }
 {
     if samples_run(sensor) {
         let g = sensor.sampling;
         let c = g.clock;
-        return Deadline::At(c.next());
+        return Some(c.next());
     }
-    Deadline::Never
+    None
 }
 
 #[tactic(auto, unfolding(crate::specs::Samples::sample_due))]
-fn sample_due(sensor: Sensor, samples: bool) -> Deadline
+fn sample_due(sensor: Sensor, samples: bool) -> Option<Time>
     ensures { result ≡ S.sample_due sensor samples }
 {
     if samples {
         return next_sample(sensor);
     }
-    Deadline::Never
+    None
 }
 
 #[tactic(auto, unfolding(crate::specs::Samples::next_deadline))]
-fn next_deadline(sensor: Sensor, samples: bool) -> Deadline
+fn next_deadline(sensor: Sensor, samples: bool) -> Option<Time>
     ensures { result ≡ S.next_deadline sensor samples }
 {
     if sensor.is_off() {
-        return Deadline::Never;
+        return None;
     }
     let d = sensor.deadlines;
     let w = sensor.writing;
@@ -82,7 +82,7 @@ fn next_deadline(sensor: Sensor, samples: bool) -> Deadline
 }
 
 // Next due.
-pub fn interaction_deadline(sensor: Sensor) -> Deadline
+pub fn interaction_deadline(sensor: Sensor) -> Option<Time>
     ensures { result ≡ S.interaction_deadline sensor }
 {
     next_deadline(sensor, sensor.automatic())

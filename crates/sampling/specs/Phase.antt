@@ -1,5 +1,5 @@
 -- Sample phases: temperature, x, y, z, in turn at the clock's edges.
-use Rattle.std.specs.Prelude.{ℕ, ◌+◌, ◌-◌, ◌%◌, min, Bool, true, not, ◌&&◌, ◌||◌, List, leb, eqb, set, ℤ, pos, if◌then◌else◌}
+use Rattle.std.specs.Prelude.{ℕ, ◌+◌, ◌-◌, ◌%◌, min, Bool, true, not, ◌&&◌, ◌||◌, List, leb, eqb, set, ℤ, pos, if◌then◌else◌, Option, Some, None}
 use Rattle.laws.specs.Notation.{Registers}
 use Rattle.laws.specs.Iterate.{iterate}
 use Rattle.time.specs.declared.Clock.{Clock}
@@ -15,8 +15,6 @@ use Rattle.control.specs.Lengths.{acquisition_cycles}
 use Rattle.interrupts.specs.declared.Interrupts.{Interrupts}
 use Rattle.interrupts.specs.State as I
 use Rattle.sampling.specs.declared.types.Input.{Input}
-use Rattle.sampling.specs.declared.types.Test.{Test}
-use Rattle.sampling.specs.declared.types.Test.TheVariants.{Off, Phases}
 use Rattle.sampling.specs.declared.types.Sampling.{Sampling}
 use Rattle.sampling.specs.declared.types.Acquisition.{Acquisition}
 
@@ -37,7 +35,7 @@ with_clock s k = record { filter = s.filter; filtered = s.filtered; means = s.me
 abbrev pub with_analog : Sampling → Analog → Sampling
 with_analog s a = record { filter = s.filter; filtered = s.filtered; means = s.means; clock = s.clock; analog = a; asleep = s.asleep; auto_cycles = s.auto_cycles; test = s.test; data_ready = s.data_ready }
 
-abbrev pub with_test : Sampling → Test → Sampling
+abbrev pub with_test : Sampling → Option ℕ → Sampling
 with_test s t = record { filter = s.filter; filtered = s.filtered; means = s.means; clock = s.clock; analog = s.analog; asleep = s.asleep; auto_cycles = s.auto_cycles; test = t; data_ready = s.data_ready }
 
 abbrev pub with_filtered : Sampling → Filter → (codes : List ℤ) (means : List Bool) → Sampling
@@ -142,19 +140,19 @@ scanned c axis needs = if eqb axis 2 then observed (counted c) needs else c
 abbrev pub one_less : ℕ → ℕ
 one_less n = n - 1
 
-unfoldable pub test_counted : Test → Test
-test_counted Off = Off
-test_counted (Phases n) = Phases (one_less n)
+unfoldable pub test_counted : Option ℕ → Option ℕ
+test_counted None = None
+test_counted (Some n) = Some (one_less n)
 
 -- bit 2 of 0a, self_test_0, is cleared and bit 7 of 09, st_result, set
 abbrev pub test_ended : Acquisition → Acquisition
 test_ended c = with_sampling
     (with_registers c (set (set c.registers control (without_self_test_0 (at c.registers control))) status (with_st_result (at c.registers status))))
-    (with_test c.sampling Off)
+    (with_test c.sampling None)
 
-unfoldable pub axis_phase : Test → Acquisition → (input : Input) (phase : ℕ) (needs : List ℕ) → Acquisition
-axis_phase Off c input phase needs = scanned (measured c input (phase - 1)) (phase - 1) needs
-axis_phase (Phases left) c input phase needs = if eqb phase 3 && eqb left 0 then test_ended c else c
+unfoldable pub axis_phase : Option ℕ → Acquisition → (input : Input) (phase : ℕ) (needs : List ℕ) → Acquisition
+axis_phase None c input phase needs = scanned (measured c input (phase - 1)) (phase - 1) needs
+axis_phase (Some left) c input phase needs = if eqb phase 3 && eqb left 0 then test_ended c else c
 
 -- the phase of the clock's last edge (`sample_phase`)
 unfoldable pub sample_phase : Acquisition → (input : Input) (needs : List ℕ) → Acquisition

@@ -7,7 +7,7 @@ ghost use Rattle.control.specs.Lengths.{acquisition_cycles};
 ghost use Rattle.sampling.specs.Split as Split;
 ghost use Rattle.sampling.specs.Phase as P;
 
-use crate::types::{Acquisition, AcquisitionScalars, Input, Sampling, Test};
+use crate::types::{Acquisition, AcquisitionScalars, Input, Sampling, Option<u8>};
 use analog::types::Axis;
 use control::lengths::acquisition_cycles;
 use registers::codes::{code, code_high, code_low, offset, temperature};
@@ -81,12 +81,12 @@ fn one_more(cycles: u16) -> u16
 }
 
 #[tactic(auto, unfolding(crate::specs::Phase::test_counted))]
-fn test_counted(test: Test) -> Test
+fn test_counted(test: Option<u8>) -> Option<u8>
     ensures { result ≡ P.test_counted test }
 {
     match test {
-        Test::Off => Test::Off,
-        Test::Phases(n) => Test::Phases(one_less(n)),
+        None => None,
+        Some(n) => Some(one_less(n)),
     }
 }
 
@@ -130,7 +130,7 @@ impl Sampling {
         acquisition_cycles(f.window()) <= self.auto_cycles
     }
 
-    pub fn with_test(self, test: Test) -> Sampling
+    pub fn with_test(self, test: Option<u8>) -> Sampling
         ensures { result ≡ P.with_test self test }
     {
         let f = self.filter;
@@ -239,7 +239,7 @@ fn test_ended(registers: &mut [u8; 62], t: AcquisitionScalars) -> AcquisitionSca
     let status = registers[STATUS] | 0x80;
     registers[CONTROL] = control;
     registers[STATUS] = status;
-    t.with_test(Test::Off)
+    t.with_test(None)
 }
 
 #[tactic(auto, unfolding(crate::specs::Phase::axis_phase, crate::specs::Phase::scanned))]
@@ -256,14 +256,14 @@ fn axis_phase(
 {
     let test = t.test;
     match test {
-        Test::Off => {
+        None => {
             let u = measured(registers, history, t, input, phase - 1);
             if phase - 1 == 2 {
                 return scanned(registers, u, needs);
             }
             u
         }
-        Test::Phases(left) => {
+        Some(left) => {
             if phase == 3 {
                 if left == 0 {
                     return test_ended(registers, t);

@@ -2,7 +2,7 @@
 ghost use Rattle.std.specs.Prelude.{◌≡◌};
 ghost use Rattle.sampling.specs.Split as Split;
 
-use crate::types::{Acquisition, AcquisitionScalars, Sampling, Test};
+use crate::types::{Acquisition, AcquisitionScalars, Sampling, Option<u8>};
 use analog::types::Axis;
 
 impl Acquisition {
@@ -34,7 +34,7 @@ impl Acquisition {
 }
 
 impl AcquisitionScalars {
-    pub(crate) fn with_test(self, test: Test) -> AcquisitionScalars
+    pub(crate) fn with_test(self, test: Option<u8>) -> AcquisitionScalars
         ensures { result ≡ Split.with_test self test }
     {
         let places = self.places;

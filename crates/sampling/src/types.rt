@@ -30,7 +30,7 @@ pub struct Sampling {
     pub analog: Analog,
     pub asleep: bool,
     pub auto_cycles: u16,
-    pub test: Test,
+    pub test: Option<u8>,
     pub data_ready: bool,
 }
 
@@ -52,7 +52,7 @@ pub(crate) struct AcquisitionScalars {
     pub(crate) analog: Analog,
     pub(crate) asleep: bool,
     pub(crate) auto_cycles: u16,
-    pub(crate) test: Test,
+    pub(crate) test: Option<u8>,
     pub(crate) data_ready: bool,
     pub(crate) interrupts: Interrupts,
 }

@@ -1,5 +1,6 @@
 -- The stored image, the working image, and a sensor at its start.
-use Rattle.std.specs.Prelude.{ℕ, ◌-◌, true, false, List, [], ◌∷◌, get_or, set, replicate, pos, if◌then◌else◌}
+use Rattle.sensor.specs.Operation.{Operation}
+use Rattle.std.specs.Prelude.{ℕ, ◌-◌, true, false, List, [], ◌∷◌, get_or, set, replicate, pos, if◌then◌else◌, Some, None}
 use Rattle.std.proofs.Math.Seq.{paste}
 use Rattle.laws.specs.Notation.{Byte, Address, Image, Registers}
 use Rattle.time.specs.declared.Time.{Time}
@@ -14,16 +15,13 @@ use Rattle.i2c.specs.Engine as E
 use Rattle.spi.specs.Frame as F
 use Rattle.reads.specs.declared.Reads.{Reads}
 use Rattle.reads.specs.Reads as R
-use Rattle.deadlines.specs.declared.Deadline.TheVariants.{At, Never}
 use Rattle.deadlines.specs.declared.Deadlines.{Deadlines}
 use Rattle.deadlines.specs.Deadlines.{never, with_wake, with_serial_ready}
 use Rattle.control.specs.Lengths.{acquisition_delay}
 use Rattle.registers.specs.Map.{at, chip_id, version, measurement, operation, bandwidth, shadow_dis}
 use Rattle.registers.specs.Access.{stored}
-use Rattle.sampling.specs.declared.types.Test.TheVariants as Test
 use Rattle.sampling.specs.declared.types.Sampling.{Sampling}
 use Rattle.sensor.specs.declared.types.Kept.{Kept}
-use Rattle.sensor.specs.declared.types.Operation.{Operation}
 use Rattle.sensor.specs.declared.types.Sensor.{Sensor}
 use Rattle.sensor.specs.Record.{with_registers, with_reads, with_sampling, with_interrupts, with_deadlines, with_filter}
 
@@ -37,11 +35,11 @@ with_cell image address value = if stored address then set image (address - 0x2b
 
 -- the stored bytes at a moment: a running write shows in its cell (`nonvolatile`)
 unfoldable pub image_at : Operation → (image : Image) (now : Time) → Image
-image_at Operation.Idle image now = image
-image_at (Operation.Running w address value) image now = with_cell image address (byte_at w (cell_byte image address) value (cell_number address) now)
+image_at None image now = image
+image_at (Some (w, address, value)) image now = with_cell image address (byte_at w (cell_byte image address) value (cell_number address) now)
 
 abbrev pub nonvolatile : Sensor → (now : Time) → Image
-nonvolatile s now = image_at s.writing.operation s.nonvolatile now
+nonvolatile s now = image_at s.writing s.nonvolatile now
 
 -- ---- the image copied into the registers 0b..1d (`copy_image`)
 
@@ -76,11 +74,11 @@ new_kept = record {
 }
 
 abbrev pub fresh_sampling : (now : Time) → Sampling
-fresh_sampling now = record { filter = made 6; filtered = replicate 3 (pos 0); means = replicate 3 false; clock = Clock.started now; analog = rest now; asleep = false; auto_cycles = 0; test = Test.Off; data_ready = false }
+fresh_sampling now = record { filter = made 6; filtered = replicate 3 (pos 0); means = replicate 3 false; clock = Clock.started now; analog = rest now; asleep = false; auto_cycles = 0; test = None; data_ready = false }
 
 -- 3 ms to the first scan
 abbrev pub acquiring : (now : Time) → Deadlines
-acquiring now = with_wake never (At (plus now (acquisition_delay (from_millis 3))))
+acquiring now = with_wake never (Some (plus now (acquisition_delay (from_millis 3))))
 
 -- a sensor that has just got supply, before its image is copied
 abbrev pub blank : (now : Time) (image : Image) (kept : Kept) → Sensor
@@ -93,9 +91,9 @@ blank now image kept = record {
   kept = kept;
   sampling = fresh_sampling now;
   deadlines = acquiring now;
-  writing = record { operation = Operation.Idle };
+  writing = None;
   interrupts = I.new;
-  supply = record { unpowered_since = Never; cold = false };
+  supply = record { unpowered_since = None; cold = false };
 }
 
 -- a start with these stored bytes (`from_nonvolatile`; with the stock image `new`)
@@ -110,7 +108,7 @@ stock = 3 ∷ 20 ∷ 150 ∷ 160 ∷ 150 ∷ 0 ∷ 0 ∷ 162 ∷ 13 ∷ 14 ∷ 1
 abbrev pub powered : (now : Time) (image : Image) (kept : Kept) → Sensor
 powered now image kept =
     let s = copy_image (blank now image kept) in
-    with_deadlines s (with_serial_ready s.deadlines (At (plus now (from_millis 3))))
+    with_deadlines s (with_serial_ready s.deadlines (Some (plus now (from_millis 3))))
 
 abbrev pub power_on : Sensor → (now : Time) → Sensor
 power_on s now = powered now s.nonvolatile s.kept

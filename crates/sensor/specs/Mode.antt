@@ -1,5 +1,5 @@
 -- Acquisition, pauses, automatic mode, soft reset.
-use Rattle.std.specs.Prelude.{ℕ, Bool, true, false, ◌&&◌, ◌||◌, replicate, pos, if◌then◌else◌}
+use Rattle.std.specs.Prelude.{ℕ, Bool, true, false, ◌&&◌, ◌||◌, replicate, pos, if◌then◌else◌, Option, Some, None}
 use Rattle.time.specs.declared.Time.{Time}
 use Rattle.time.specs.declared.Duration.{Duration}
 use Rattle.time.specs.Time.{plus, from_millis, from_micros}
@@ -8,17 +8,13 @@ use Rattle.analog.specs.Axis.{rest, all_resumed}
 use Rattle.interrupts.specs.State as I
 use Rattle.interrupts.specs.Pin.{output, verifying}
 use Rattle.i2c.specs.Engine as E
-use Rattle.spi.specs.declared.types.Sent.TheVariants as Sent
 use Rattle.spi.specs.Frame as F
 use Rattle.reads.specs.Reads as R
-use Rattle.deadlines.specs.declared.Deadline.{Deadline}
-use Rattle.deadlines.specs.declared.Deadline.TheVariants.{At, Never}
 use Rattle.deadlines.specs.Deadlines.{is_set, with_wake, with_pause, with_quiet, with_irq_hold, with_image}
 use Rattle.control.specs.Lengths.{acquisition_delay, pauses, pause_length}
 use Rattle.control.specs.declared.automatic.Activity.{Activity}
 use Rattle.control.specs.Automatic.{holds, pauses_again, may_pause}
 use Rattle.registers.specs.Map.{at, measurement, operation, bandwidth, latch_INT, wake_up_pause, new_data_INT}
-use Rattle.sampling.specs.declared.types.Test.TheVariants as Test
 use Rattle.sampling.specs.declared.types.Sampling.{Sampling}
 use Rattle.sampling.specs.Phase as Phase
 use Rattle.sampling.specs.Stage as Stage
@@ -38,7 +34,7 @@ start_acquisition s now ready =
     with_interrupts
     (with_reads
     (with_sampling
-    (with_deadlines s (with_wake (with_pause s.deadlines Never) (At (plus now (acquisition_delay ready)))))
+    (with_deadlines s (with_wake (with_pause s.deadlines None) (Some (plus now (acquisition_delay ready)))))
     (acquiring s.sampling (bandwidth (at s.registers measurement)) now))
     (R.released s.reads))
     (I.restart_acquisition s.interrupts)
@@ -50,14 +46,14 @@ abbrev pub pause_of : Sensor → Duration
 pause_of s = pause_length (wake_up_pause (at s.registers operation)) pauses
 
 -- only automatic mode ends a pause by itself
-unfoldable pub pause_end : Sensor → (now : Time) → Deadline
-pause_end s now = if automatic s then At (plus now (pause_of s)) else Never
+unfoldable pub pause_end : Sensor → (now : Time) → Option Time
+pause_end s now = if automatic s then Some (plus now (pause_of s)) else None
 
 -- the sensor sleeps; awake, the stage is brought up to now first (`pause`)
 abbrev pub pause : Sensor → (now : Time) → Sensor
 pause s now =
     with_frame
-    (with_deadlines (with_sampling s (with_asleep (Stage.held s.sampling now s.kept.input) true)) (with_pause (with_wake s.deadlines Never) (pause_end s now)))
+    (with_deadlines (with_sampling s (with_asleep (Stage.held s.sampling now s.kept.input) true)) (with_pause (with_wake s.deadlines None) (pause_end s now)))
     (F.released s.frame)
 
 -- ---- the interrupt pin
@@ -89,7 +85,7 @@ pause_restarted s now = if pauses_again s.sampling.asleep (is_set s.deadlines.pa
 unfoldable pub interrupt_held : Sensor → (now : Time) (was_criterion : Bool) → Sensor
 interrupt_held s now was_criterion =
     if holds was_criterion (latch_INT (at s.registers operation)) (criterion s)
-    then with_deadlines s (with_irq_hold s.deadlines (At (plus now (from_micros 330))))
+    then with_deadlines s (with_irq_hold s.deadlines (Some (plus now (from_micros 330))))
     else s
 
 -- what the sensor is doing
@@ -113,7 +109,7 @@ pause_if_idle s now verify = if may_sleep s verify then pause s now else s
 
 -- outside automatic mode no hold and no pause runs
 abbrev pub automatic_off : Sensor → Sensor
-automatic_off s = with_deadlines s (with_pause (with_irq_hold s.deadlines Never) Never)
+automatic_off s = with_deadlines s (with_pause (with_irq_hold s.deadlines None) None)
 
 unfoldable pub automatic_control : Sensor → (now : Time) (was_criterion verify : Bool) → Sensor
 automatic_control s now was_criterion verify =
@@ -123,7 +119,7 @@ automatic_control s now was_criterion verify =
 
 -- no code, every axis single, no self test, no new data; the stage at rest
 abbrev pub cleared : Sampling → (now : Time) → Sampling
-cleared g now = record { filter = g.filter; filtered = replicate 3 (pos 0); means = replicate 3 false; clock = g.clock; analog = rest now; asleep = g.asleep; auto_cycles = g.auto_cycles; test = Test.Off; data_ready = false }
+cleared g now = record { filter = g.filter; filtered = replicate 3 (pos 0); means = replicate 3 false; clock = g.clock; analog = rest now; asleep = g.asleep; auto_cycles = g.auto_cycles; test = None; data_ready = false }
 
 -- registers, criteria and the I2C state as at a start, and the image copied
 abbrev pub reloaded : Sensor → Sensor
@@ -135,8 +131,8 @@ quieted s now =
     with_frame
     (with_deadlines
     (with_reads (with_sampling s (cleared s.sampling now)) (R.forgotten s.reads))
-    (with_quiet (with_image (with_irq_hold s.deadlines Never) Never) (At (plus now (from_micros 10)))))
-    (F.released (F.sending s.frame Sent.Nothing))
+    (with_quiet (with_image (with_irq_hold s.deadlines None) None) (Some (plus now (from_micros 10)))))
+    (F.released (F.sending s.frame None))
 
 -- ready after 30 ms from sleep, else after 1300 µs
 unfoldable pub reset_time : (asleep : Bool) → Duration

@@ -1,5 +1,6 @@
 -- The sensor record with one part replaced, and short views of it.
-use Rattle.std.specs.Prelude.{ℕ, Bool, true, false, List, set}
+use Rattle.sensor.specs.Operation.{Operation}
+use Rattle.std.specs.Prelude.{ℕ, Bool, true, false, List, set, Option, Some, None}
 use Rattle.laws.specs.Notation.{Byte, Address, Registers}
 use Rattle.filter.specs.declared.Filter.{Filter}
 use Rattle.interrupts.specs.declared.Interrupts.{Interrupts}
@@ -9,14 +10,11 @@ use Rattle.spi.specs.declared.types.Frame.{Frame}
 use Rattle.reads.specs.declared.Reads.{Reads}
 use Rattle.deadlines.specs.declared.Deadlines.{Deadlines}
 use Rattle.deadlines.specs.Deadlines.{is_set}
-use Rattle.sampling.specs.declared.types.Test.{Test}
 use Rattle.sampling.specs.declared.types.Input.{Input}
 use Rattle.sampling.specs.declared.types.Sampling.{Sampling}
 use Rattle.sampling.specs.Phase as Phase
 use Rattle.registers.specs.declared.access.Gate.{Gate}
 use Rattle.registers.specs.Map.{at, control, operation, SPI4}
-use Rattle.sensor.specs.declared.types.Operation.{Operation}
-use Rattle.sensor.specs.declared.types.Writing.{Writing}
 use Rattle.sensor.specs.declared.types.Supply.{Supply}
 use Rattle.sensor.specs.declared.types.Kept.{Kept}
 use Rattle.sensor.specs.declared.types.Sensor.{Sensor}
@@ -47,7 +45,7 @@ with_sampling s x = record { registers = s.registers; nonvolatile = s.nonvolatil
 abbrev pub with_deadlines : Sensor → Deadlines → Sensor
 with_deadlines s x = record { registers = s.registers; nonvolatile = s.nonvolatile; frame = s.frame; i2c = s.i2c; reads = s.reads; kept = s.kept; sampling = s.sampling; deadlines = x; writing = s.writing; interrupts = s.interrupts; supply = s.supply }
 
-abbrev pub with_writing : Sensor → Writing → Sensor
+abbrev pub with_writing : Sensor → Operation → Sensor
 with_writing s x = record { registers = s.registers; nonvolatile = s.nonvolatile; frame = s.frame; i2c = s.i2c; reads = s.reads; kept = s.kept; sampling = s.sampling; deadlines = s.deadlines; writing = x; interrupts = s.interrupts; supply = s.supply }
 
 abbrev pub with_interrupts : Sensor → Interrupts → Sensor
@@ -103,20 +101,20 @@ four_wire s = SPI4 (at s.registers operation)
 
 -- a stored write runs
 unfoldable pub runs : Operation → Bool
-runs Operation.Idle = false
-runs (Operation.Running w a v) = true
+runs None = false
+runs (Some (w, a, v)) = true
 
 abbrev pub is_writing : Sensor → Bool
-is_writing s = runs s.writing.operation
+is_writing s = runs s.writing
 
 -- what a read or a write of a register meets
 abbrev pub gate : Sensor → Gate
 gate s = record { control = at s.registers control; quiet = is_quiet s; copying = is_copying s; asleep = s.sampling.asleep }
 
 -- a self test runs
-unfoldable pub tests : Test → Bool
-tests Test.Off = false
-tests (Test.Phases n) = true
+unfoldable pub tests : Option ℕ → Bool
+tests None = false
+tests (Some n) = true
 
 -- ---- parts of the sampling
 

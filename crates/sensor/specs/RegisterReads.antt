@@ -1,14 +1,12 @@
 -- Register views and reads (`peek`, `prepare_read`, `acknowledge_read`).
-use Rattle.std.specs.Prelude.{ℕ, ◌+◌, Bool, false, not, ◌&&◌, eqb, get_or, set, if◌then◌else◌}
+use Rattle.std.specs.Prelude.{ℕ, ◌+◌, Bool, false, not, ◌&&◌, eqb, get_or, set, if◌then◌else◌, Option, Some, None}
 use Rattle.std.specs.Int.Bits.{bit_or}
 use Rattle.laws.specs.Notation.{Byte, Address}
 use Rattle.interrupts.specs.Pin as Pin
-use Rattle.spi.specs.declared.types.Sent.{Sent}
 use Rattle.reads.specs.declared.Prepared.{Prepared}
 use Rattle.reads.specs.Reads as R
 use Rattle.registers.specs.Map.{at, status, operation, acc_lsb, shadow_dis}
 use Rattle.registers.specs.Access.{withheld}
-use Rattle.sensor.specs.declared.types.View.{View}
 use Rattle.sensor.specs.declared.types.Mark.{Mark}
 use Rattle.sensor.specs.declared.types.Viewed.{Viewed}
 use Rattle.sensor.specs.declared.types.Fetched.{Fetched}
@@ -19,9 +17,9 @@ use Rattle.sensor.specs.Record.{with_registers, with_reads, with_sampling, is_qu
 unfoldable pub shown : Sensor → (address : Address) → ℕ
 shown s address = if eqb address status then bit_or (at s.registers status) (Pin.status s.interrupts) else at s.registers address
 
-unfoldable pub peek : Sensor → (address : Address) → View
+unfoldable pub peek : Sensor → (address : Address) → Option ℕ
 peek s address =
-    if withheld address (gate s) then View.Withheld else View.Byte (shown s address)
+    if withheld address (gate s) then None else Some (shown s address)
 
 -- the mark of an acceleration's registers 02 to 07: whether the value that its axis shows is the mean of a full window; no other register has one
 unfoldable pub mark : Sensor → (address : Address) → Mark
@@ -30,9 +28,9 @@ mark s address =
     else if get_or s.sampling.means (R.axis_of address) false then Mark.Mean else Mark.Single
 
 -- where the byte is withheld there is no mark
-unfoldable pub mark_of : View → Sensor → (address : Address) → Mark
-mark_of (View.Byte b) s address = mark s address
-mark_of View.Withheld s address = Mark.Nothing
+unfoldable pub mark_of : Option ℕ → Sensor → (address : Address) → Mark
+mark_of (Some b) s address = mark s address
+mark_of None s address = Mark.Nothing
 
 -- what a view answers: the byte or its absence, and the mark
 abbrev pub viewed : Sensor → (address : Address) → Viewed
@@ -48,9 +46,9 @@ prepared s address viewed =
     R.prepared s.reads address viewed (at s.registers (low_address address)) (at s.registers (low_address address + 1))
     (not (shadow_dis (at s.registers operation)))
 
-unfoldable pub fetched : View → Sensor → (address : Address) → Fetched
-fetched View.Withheld s address = record { sensor = with_reads s (R.dropped s.reads); sent = Sent.Nothing }
-fetched (View.Byte b) s address = record { sensor = with_reads s (prepared s address b).reads; sent = Sent.Byte (prepared s address b).byte }
+unfoldable pub fetched : Option ℕ → Sensor → (address : Address) → Fetched
+fetched None s address = record { sensor = with_reads s (R.dropped s.reads); sent = None }
+fetched (Some b) s address = record { sensor = with_reads s (prepared s address b).reads; sent = Some (prepared s address b).byte }
 
 abbrev pub prepare_read : Sensor → (address : Address) → Fetched
 prepare_read s address = fetched (peek s address) s address
@@ -68,9 +66,9 @@ acceleration_read s address sent =
 unfoldable pub counts_as_read : Sensor → (address : Address) → Bool
 counts_as_read s address = not s.sampling.asleep && (not (is_quiet s) && R.is_acceleration address)
 
-unfoldable pub byte_read : Sent → Sensor → (address : Address) → Sensor
-byte_read Sent.Nothing s address = s
-byte_read (Sent.Byte b) s address = if counts_as_read s address then acceleration_read s address b else s
+unfoldable pub byte_read : Option ℕ → Sensor → (address : Address) → Sensor
+byte_read None s address = s
+byte_read (Some b) s address = if counts_as_read s address then acceleration_read s address b else s
 
 abbrev pub read_began : Sensor → (address : Address) → Sensor
 read_began s address = byte_read s.frame.tx s address

@@ -11,7 +11,7 @@ use interrupts::Interrupts;
 use reads::Reads;
 use registers::access::stored;
 use registers::fields::{CHIP_ID, MEASUREMENT, OPERATION, SHADOW_DIS, VERSION, bandwidth, has};
-use sampling::types::{Input, Sampling, Test};
+use sampling::types::{Input, Sampling, Option<u8>};
 use spi::types::Frame;
 use time::{Clock, Duration, Time};
 
@@ -38,12 +38,12 @@ pub fn with_cell(image: [u8; 19], address: u8, value: u8) -> [u8; 19]
 }
 
 #[tactic(auto, unfolding(crate::specs::Image::image_at))]
-fn image_at(operation: Operation, image: [u8; 19], now: Time) -> [u8; 19]
+fn image_at(operation: Option<(WriteCycle, u8, u8)>, image: [u8; 19], now: Time) -> [u8; 19]
     ensures { result ≡ Im.image_at operation image now }
 {
     match operation {
-        Operation::Idle => image,
-        Operation::Running(w, address, value) => {
+        None => image,
+        Some((w, address, value)) => {
             let old = cell_byte(image, address);
             let byte = w.byte(old, value, 0x20000 + address as u32, now);
             with_cell(image, address, byte)
@@ -103,7 +103,7 @@ fn fresh_sampling(now: Time) -> Sampling
         analog: Analog::at_rest(now),
         asleep: false,
         auto_cycles: 0,
-        test: Test::Off,
+        test: None,
         data_ready: false,
     }
 }
@@ -113,7 +113,7 @@ fn acquiring(now: Time) -> Deadlines
 {
     let d = Deadlines::never();
     let length = control::lengths::acquisition_delay(Duration::from_millis(3));
-    d.with_wake(Deadline::At(now.plus(length)))
+    d.with_wake(Some(now.plus(length)))
 }
 
 // What a start keeps: 1 g on z, 20 degrees, both lines high.
@@ -149,11 +149,11 @@ fn blank(now: Time, image: [u8; 19], kept: Kept) -> Sensor
         sampling: fresh_sampling(now),
         deadlines: acquiring(now),
         writing: Writing {
-            operation: Operation::Idle,
+            operation: None,
         },
         interrupts: Interrupts::new(),
         supply: Supply {
-            unpowered_since: Deadline::Never,
+            unpowered_since: None,
             cold: false,
         },
     }
@@ -166,7 +166,7 @@ pub fn powered(now: Time, image: [u8; 19], kept: Kept) -> Sensor
     let b = blank(now, image, kept);
     let mut s = b.copy_image();
     let d = s.deadlines;
-    s.deadlines = d.with_serial_ready(Deadline::At(now.plus(Duration::from_millis(3))));
+    s.deadlines = d.with_serial_ready(Some(now.plus(Duration::from_millis(3))));
     s
 }
 

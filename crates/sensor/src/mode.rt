@@ -14,7 +14,7 @@ use interrupts::Interrupts;
 use registers::fields::{
     LATCH_INT, MEASUREMENT, NEW_DATA_INT, OPERATION, bandwidth, has, wake_up_pause,
 };
-use sampling::types::{Sampling, Test};
+use sampling::types::{Sampling, Option<u8>};
 use spi::types::Sent;
 use time::{Duration, Time};
 
@@ -32,7 +32,7 @@ fn cleared(sampling: Sampling, now: Time) -> Sampling
     ensures { result ≡ C.cleared sampling now }
 {
     let h = sampling.rest(now);
-    let mut g = h.with_test(Test::Off);
+    let mut g = h.with_test(None);
     g.filtered = [0; 3];
     g.means = [false; 3];
     g.data_ready = false;
@@ -54,9 +54,9 @@ impl Sensor {
         ensures { result ≡ C.start_acquisition self now ready }
     {
         let d = self.deadlines;
-        let e = d.with_pause(Deadline::Never);
+        let e = d.with_pause(None);
         let mut s = self;
-        s.deadlines = e.with_wake(Deadline::At(now.plus(acquisition_delay(ready))));
+        s.deadlines = e.with_wake(Some(now.plus(acquisition_delay(ready))));
         let g = s.sampling;
         s.sampling = acquiring(g, bandwidth(s.registers[MEASUREMENT]), now);
         let r = s.reads;
@@ -73,20 +73,20 @@ impl Sensor {
     }
 
     #[tactic(auto, unfolding(crate::specs::Mode::pause_end))]
-    fn pause_end(self, now: Time) -> Deadline
+    fn pause_end(self, now: Time) -> Option<Time>
         ensures { result ≡ C.pause_end self now }
     {
         if self.automatic() {
-            return Deadline::At(now.plus(self.pause_of()));
+            return Some(now.plus(self.pause_of()));
         }
-        Deadline::Never
+        None
     }
 
     pub fn pause(self, now: Time) -> Sensor
         ensures { result ≡ C.pause self now }
     {
         let d = self.deadlines;
-        let e = d.with_wake(Deadline::Never);
+        let e = d.with_wake(None);
         let mut s = self;
         s.deadlines = e.with_pause(self.pause_end(now));
         let k = s.kept;
@@ -163,7 +163,7 @@ impl Sensor {
         ) {
             let d = self.deadlines;
             let mut s = self;
-            s.deadlines = d.with_irq_hold(Deadline::At(now.plus(Duration::from_micros(330))));
+            s.deadlines = d.with_irq_hold(Some(now.plus(Duration::from_micros(330))));
             return s;
         }
         self
@@ -216,9 +216,9 @@ impl Sensor {
         ensures { result ≡ C.automatic_off self }
     {
         let d = self.deadlines;
-        let e = d.with_irq_hold(Deadline::Never);
+        let e = d.with_irq_hold(None);
         let mut s = self;
-        s.deadlines = e.with_pause(Deadline::Never);
+        s.deadlines = e.with_pause(None);
         s
     }
 
@@ -254,11 +254,11 @@ impl Sensor {
         let r = s.reads;
         s.reads = r.forget();
         let d = s.deadlines;
-        let e = d.with_irq_hold(Deadline::Never);
-        let h = e.with_image(Deadline::Never);
-        s.deadlines = h.with_quiet(Deadline::At(now.plus(Duration::from_micros(10))));
+        let e = d.with_irq_hold(None);
+        let h = e.with_image(None);
+        s.deadlines = h.with_quiet(Some(now.plus(Duration::from_micros(10))));
         let f = s.frame;
-        let k = f.sending(Sent::Nothing);
+        let k = f.sending(None);
         s.frame = k.released();
         s
     }

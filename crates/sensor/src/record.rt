@@ -32,22 +32,22 @@ fn with_byte(registers: [u8; 62], address: u8, value: u8) -> [u8; 62]
 }
 
 #[tactic(auto, unfolding(crate::specs::Record::runs))]
-pub fn runs(operation: Operation) -> bool
+pub fn runs(operation: Option<(WriteCycle, u8, u8)>) -> bool
     ensures { result ≡ Rec.runs operation }
 {
     match operation {
-        Operation::Idle => false,
-        Operation::Running(_, _, _) => true,
+        None => false,
+        Some((_, _, _)) => true,
     }
 }
 
 #[tactic(auto, unfolding(crate::specs::Record::tests))]
-pub fn tests(test: Test) -> bool
+pub fn tests(test: Option<u8>) -> bool
     ensures { result ≡ Rec.tests test }
 {
     match test {
-        Test::Off => false,
-        Test::Phases(_) => true,
+        None => false,
+        Some(_) => true,
     }
 }
 

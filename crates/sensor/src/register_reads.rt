@@ -4,7 +4,7 @@ ghost use Rattle.reads.specs.declared.Prepared.{Prepared};
 ghost use Rattle.sensor.specs.RegisterReads as B;
 
 use crate::record::byte_at;
-use crate::types::{Fetched, Mark, Sensor, View, Viewed};
+use crate::types::{Fetched, Mark, Sensor, Option<u8>, Viewed};
 use reads::{Prepared, axis_of, is_acceleration, without_new_data};
 use registers::access::withheld;
 use registers::fields::{OPERATION, SHADOW_DIS, STATUS, has};
@@ -41,13 +41,13 @@ impl Sensor {
     }
 
     #[tactic(auto, unfolding(crate::specs::RegisterReads::peek))]
-    pub fn peek(self, address: u8) -> View
+    pub fn peek(self, address: u8) -> Option<u8>
         ensures { result ≡ B.peek self address }
     {
         if withheld(address, self.gate()) {
-            return View::Withheld;
+            return None;
         }
-        View::Byte(self.shown(address))
+        Some(self.shown(address))
     }
 
     // The mark of an acceleration's register.
@@ -67,12 +67,12 @@ impl Sensor {
     }
 
     #[tactic(auto, unfolding(crate::specs::RegisterReads::mark_of))]
-    fn mark_of(self, view: View, address: u8) -> Mark
+    fn mark_of(self, view: Option<u8>, address: u8) -> Mark
         ensures { result ≡ B.mark_of view self address }
     {
         match view {
-            View::Byte(_) => self.mark(address),
-            View::Withheld => Mark::Nothing,
+            Some(_) => self.mark(address),
+            None => Mark::Nothing,
         }
     }
 
@@ -103,26 +103,26 @@ impl Sensor {
     }
 
     #[tactic(auto, unfolding(crate::specs::RegisterReads::fetched))]
-    fn fetched(self, view: View, address: u8) -> Fetched
+    fn fetched(self, view: Option<u8>, address: u8) -> Fetched
         ensures { result ≡ B.fetched view self address }
     {
         let mut s = self;
         match view {
-            View::Byte(b) => {
+            Some(b) => {
                 let p = self.prepared(address, b);
                 let r = p.reads;
                 s.reads = r;
                 Fetched {
                     sensor: s,
-                    sent: Sent::Byte(p.byte),
+                    sent: Some(p.byte),
                 }
             }
-            View::Withheld => {
+            None => {
                 let r = s.reads;
                 s.reads = r.drop();
                 Fetched {
                     sensor: s,
-                    sent: Sent::Nothing,
+                    sent: None,
                 }
             }
         }
@@ -165,12 +165,12 @@ impl Sensor {
     }
 
     #[tactic(auto, unfolding(crate::specs::RegisterReads::byte_read))]
-    fn byte_read(self, tx: Sent, address: u8) -> Sensor
+    fn byte_read(self, tx: Option<u8>, address: u8) -> Sensor
         ensures { result ≡ B.byte_read tx self address }
     {
         match tx {
-            Sent::Nothing => self,
-            Sent::Byte(b) => {
+            None => self,
+            Some(b) => {
                 if self.counts_as_read(address) {
                     return self.acceleration_read(address, b);
                 }

@@ -5,7 +5,7 @@ use interrupts::Interrupts;
 use nv::WriteCycle;
 use reads::Reads;
 use sampling::types::{Input, Sampling};
-use spi::types::{Frame, Sent};
+use spi::types::{Frame, Option<u8>};
 
 // A stored write that runs: when it began, the address and the wanted byte.
 #[derive(Clone, Copy)]
@@ -16,13 +16,13 @@ pub enum Operation {
 
 #[derive(Clone, Copy)]
 pub struct Writing {
-    pub operation: Operation,
+    pub operation: Option<(WriteCycle, u8, u8)>,
 }
 
 // Since when the supply is below 2400 mV, and whether it met 0 mV.
 #[derive(Clone, Copy)]
 pub struct Supply {
-    pub unpowered_since: Deadline,
+    pub unpowered_since: Option<Time>,
     pub cold: bool,
 }
 
@@ -67,7 +67,7 @@ pub enum Mark {
 // What a view answers.
 #[derive(Clone, Copy)]
 pub struct Viewed {
-    pub view: View,
+    pub view: Option<u8>,
     pub mark: Mark,
 }
 
@@ -75,5 +75,5 @@ pub struct Viewed {
 #[derive(Clone, Copy)]
 pub struct Fetched {
     pub sensor: Sensor,
-    pub sent: Sent,
+    pub sent: Option<u8>,
 }

@@ -1,5 +1,5 @@
 -- An I2C report (`i2c_pins_at`).
-use Rattle.std.specs.Prelude.{ℕ, Bool, true, not, ◌&&◌, if◌then◌else◌}
+use Rattle.std.specs.Prelude.{ℕ, Bool, true, not, ◌&&◌, if◌then◌else◌, Option, Some, None}
 use Rattle.time.specs.declared.Time.{Time}
 use Rattle.i2c.specs.declared.types.Levels.{Levels}
 use Rattle.i2c.specs.declared.types.Edge.{Edge}
@@ -7,7 +7,6 @@ use Rattle.i2c.specs.declared.types.Action.{Action}
 use Rattle.i2c.specs.declared.types.Step.{Step}
 use Rattle.i2c.specs.Bus.{edge}
 use Rattle.i2c.specs.Engine as E
-use Rattle.spi.specs.declared.types.Sent.{Sent}
 use Rattle.spi.specs.Frame as F
 use Rattle.reads.specs.Reads as R
 use Rattle.sensor.specs.declared.types.Fetched.{Fetched}
@@ -24,13 +23,13 @@ unfoldable pub i2c_listens : Sensor → Bool
 i2c_listens s = not s.frame.selected && (not (is_off s) && not (serial_not_ready s))
 
 -- the byte being sent; a withheld one drives ones (01)
-unfoldable pub ones_for : Sent → ℕ
-ones_for Sent.Nothing = 0xff
-ones_for (Sent.Byte b) = b
+unfoldable pub ones_for : Option ℕ → ℕ
+ones_for None = 0xff
+ones_for (Some b) = b
 
 -- START and STOP drop the byte being sent
 abbrev pub byte_dropped : Sensor → Sensor
-byte_dropped s = with_reads (with_frame s (F.sending s.frame Sent.Nothing)) (R.dropped s.reads)
+byte_dropped s = with_reads (with_frame s (F.sending s.frame None)) (R.dropped s.reads)
 
 -- a written register is acknowledged with the state that the sensor then has
 abbrev pub acknowledge_begun : Sensor → Sensor

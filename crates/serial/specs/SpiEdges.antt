@@ -1,9 +1,7 @@
 -- SPI edges (`rising_at`, `falling_at`).
-use Rattle.std.specs.Prelude.{Bool, true, not, ◌&&◌, if◌then◌else◌}
+use Rattle.std.specs.Prelude.{Bool, true, not, ◌&&◌, if◌then◌else◌, Option, Some, None, ℕ}
 use Rattle.time.specs.declared.Time.{Time}
 use Rattle.spi.specs.declared.types.Clocked.{Clocked}
-use Rattle.spi.specs.declared.types.FirstBit.{FirstBit}
-use Rattle.spi.specs.declared.types.Write.{Write}
 use Rattle.spi.specs.declared.types.Shift.{Shift}
 use Rattle.spi.specs.declared.types.Taken.{Taken}
 use Rattle.spi.specs.Frame as F
@@ -30,14 +28,14 @@ shift_output s at = moved (F.shifts s.frame at (four_wire s)) s
 -- ---- SPI rise (`rising_at`)
 
 -- the read of a byte is noted at its first bit
-unfoldable pub first_bit_taken : FirstBit → Sensor → Sensor
-first_bit_taken FirstBit.Nothing s = s
-first_bit_taken (FirstBit.Register a) s = read_began s a
+unfoldable pub first_bit_taken : Option ℕ → Sensor → Sensor
+first_bit_taken None s = s
+first_bit_taken (Some a) s = read_began s a
 
 -- a completed write frame writes
-unfoldable pub write_done : Write → Sensor → (now : Time) → Sensor
-write_done Write.Nothing s now = s
-write_done (Write.Register a v) s now = write_register s a v now
+unfoldable pub write_done : Option (ℕ × ℕ) → Sensor → (now : Time) → Sensor
+write_done None s now = s
+write_done (Some (a, v)) s now = write_register s a v now
 
 abbrev pub bit_done : Taken → Sensor → (now : Time) → Sensor
 bit_done t s now = write_done t.write (with_frame s t.frame) now

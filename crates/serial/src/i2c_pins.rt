@@ -25,12 +25,12 @@ pub fn i2c_listens(sensor: Sensor) -> bool
 }
 
 #[tactic(auto, unfolding(crate::specs::I2cPins::ones_for))]
-pub fn ones_for(tx: Sent) -> u8
+pub fn ones_for(tx: Option<u8>) -> u8
     ensures { result ≡ Z.ones_for tx }
 {
     match tx {
-        Sent::Nothing => 0xff,
-        Sent::Byte(b) => b,
+        None => 0xff,
+        Some(b) => b,
     }
 }
 
@@ -39,7 +39,7 @@ fn byte_dropped(sensor: Sensor) -> Sensor
 {
     let mut s = sensor;
     let f = s.frame;
-    s.frame = f.sending(Sent::Nothing);
+    s.frame = f.sending(None);
     let r = s.reads;
     s.reads = r.drop();
     s

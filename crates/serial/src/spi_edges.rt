@@ -4,7 +4,7 @@ ghost use Rattle.serial.specs.SpiEdges as Z;
 
 use samples::sync_local_until;
 use sensor::types::{Fetched, Sensor};
-use spi::types::{Clocked, FirstBit, Shift, Taken, Write};
+use spi::types::{Clocked, Option<u8>, Shift, Taken, Write};
 use time::Time;
 use writes::write::write_register;
 
@@ -43,22 +43,22 @@ fn shift_output(sensor: Sensor, at: Clocked) -> Sensor
 }
 
 #[tactic(auto, unfolding(crate::specs::SpiEdges::first_bit_taken))]
-fn first_bit_taken(sensor: Sensor, a: FirstBit) -> Sensor
+fn first_bit_taken(sensor: Sensor, a: Option<u8>) -> Sensor
     ensures { result ≡ Z.first_bit_taken a sensor }
 {
     match a {
-        FirstBit::Nothing => sensor,
-        FirstBit::Register(r) => sensor.read_began(r),
+        None => sensor,
+        Some(r) => sensor.read_began(r),
     }
 }
 
 #[tactic(auto, unfolding(crate::specs::SpiEdges::write_done))]
-fn write_done(sensor: Sensor, w: Write, now: Time) -> Sensor
+fn write_done(sensor: Sensor, w: Option<(u8, u8)>, now: Time) -> Sensor
     ensures { result ≡ Z.write_done w sensor now }
 {
     match w {
-        Write::Nothing => sensor,
-        Write::Register(a, v) => write_register(sensor, a, v, now),
+        None => sensor,
+        Some((a, v)) => write_register(sensor, a, v, now),
     }
 }
 

@@ -1,11 +1,9 @@
 -- What is seen of the sensor in each part of a frame, event by event.
-use Rattle.std.specs.Prelude.{ℕ, ◌+◌, ◌%◌, Bool, true, false, List, [], ◌∷◌, ◌++◌, drop, replicate, if◌then◌else◌}
+use Rattle.std.specs.Prelude.{ℕ, ◌+◌, ◌%◌, Bool, true, false, List, [], ◌∷◌, ◌++◌, drop, replicate, if◌then◌else◌, Option, Some, None}
 use Rattle.laws.specs.Bytes.{bit}
 use Rattle.spi.specs.declared.types.Serial.TheVariants as S
 use Rattle.spi.specs.declared.types.Drive.{Drive}
 use Rattle.spi.specs.declared.types.Drive.TheVariants as D
-use Rattle.spi.specs.declared.types.Sent.{Sent}
-use Rattle.spi.specs.declared.types.Sent.TheVariants as T
 use Rattle.spi.specs.declared.types.Frame.{Frame}
 use Rattle.spi.specs.Lines.{Deed, Wrote, Fetched, Noted, Now, Seen, shown}
 use Rattle.spi.specs.Courses.{Pair, Levels8}
@@ -40,16 +38,16 @@ writes_answer (p ∷ ps) = (floats ∷ write_answer p.register p.value) ++ write
 -- ---- bytes of the sensor's
 
 -- how the pin is driven for a bit of a byte, bit 7 the most significant: high for a 1 and low for a 0; a withheld byte floats
-unfoldable pub drive_for : Sent → (bit : ℕ) → Drive
-drive_for T.Nothing k = D.Floating
-drive_for (T.Byte b) k = if bit b k then D.High else D.Low
+unfoldable pub drive_for : Option ℕ → (bit : ℕ) → Drive
+drive_for None k = D.Floating
+drive_for (Some b) k = if bit b k then D.High else D.Low
 
 -- a bit is on the pin, and nothing is done
-abbrev pub shows_bit : Sent → (bit : ℕ) → Seen
+abbrev pub shows_bit : Option ℕ → (bit : ℕ) → Seen
 shows_bit t k = record { driven = drive_for t k; sampled = false; deeds = [] }
 
 -- a bit is on the pin, and after a sample of the same moment this is done
-abbrev pub shows_bit_and : Sent → (bit : ℕ) → List Deed → Seen
+abbrev pub shows_bit_and : Option ℕ → (bit : ℕ) → List Deed → Seen
 shows_bit_and t k ds = record { driven = drive_for t k; sampled = true; deeds = ds }
 
 -- the next register, modulo 128
@@ -64,13 +62,13 @@ register_after a (o ∷ os) = register_after (next_register a) os
 -- ---- four-wire reads
 
 -- a byte from its first rise on, which notes the read: each fall shows the next bit
-abbrev pub four_wire_rises : (register : ℕ) → Sent → List Seen
+abbrev pub four_wire_rises : (register : ℕ) → Option ℕ → List Seen
 four_wire_rises a t =
     shows_bit_and t 7 (Noted a ∷ []) ∷ shows_bit t 6 ∷ shows_bit t 6 ∷ shows_bit t 5 ∷ shows_bit t 5 ∷ shows_bit t 4 ∷ shows_bit t 4
     ∷ shows_bit t 3 ∷ shows_bit t 3 ∷ shows_bit t 2 ∷ shows_bit t 2 ∷ shows_bit t 1 ∷ shows_bit t 1 ∷ shows_bit t 0 ∷ shows_bit_and t 0 [] ∷ []
 
 -- a byte: the fall before its first rise fetches it and shows its first bit
-abbrev pub four_wire_byte : (register : ℕ) → Sent → List Seen
+abbrev pub four_wire_byte : (register : ℕ) → Option ℕ → List Seen
 four_wire_byte a t = shows_bit_and t 7 (Fetched a ∷ []) ∷ four_wire_rises a t
 
 -- bytes from a register on, each the one that its register shows at the fall that fetches it
@@ -90,30 +88,30 @@ four_wire_answer a os ns = address_answer ++ four_wire_bytes a os (drop 15 ns)
 -- ---- three-wire reads
 
 -- the turnaround's fall moves nothing; its rise fetches the first byte and shows its first bit
-abbrev pub turnaround_answer : (register : ℕ) → Sent → List Seen
+abbrev pub turnaround_answer : (register : ℕ) → Option ℕ → List Seen
 turnaround_answer a t = floats ∷ shows_bit_and t 7 (Fetched a ∷ []) ∷ []
 
 -- a byte up to its eighth fall: its first rise notes the read, and each rise shows the next bit
-abbrev pub three_wire_bits : (register : ℕ) → Sent → List Seen
+abbrev pub three_wire_bits : (register : ℕ) → Option ℕ → List Seen
 three_wire_bits a t =
     shows_bit t 7 ∷ shows_bit_and t 6 (Noted a ∷ []) ∷ shows_bit t 6 ∷ shows_bit t 5 ∷ shows_bit t 5 ∷ shows_bit t 4 ∷ shows_bit t 4
     ∷ shows_bit t 3 ∷ shows_bit t 3 ∷ shows_bit t 2 ∷ shows_bit t 2 ∷ shows_bit t 1 ∷ shows_bit t 1 ∷ shows_bit t 0 ∷ shows_bit t 0 ∷ []
 
 -- a byte: its eighth rise fetches the next one and shows its first bit
-abbrev pub three_wire_byte : (register : ℕ) → Sent → (next : Sent) → List Seen
+abbrev pub three_wire_byte : (register : ℕ) → Option ℕ → (next : Option ℕ) → List Seen
 three_wire_byte a t next = three_wire_bits a t ++ (shows_bit_and next 7 (Fetched (next_register a) ∷ []) ∷ [])
 
 -- the byte that the eighth rise of a byte fetches: the one that the next register then shows
-abbrev pub next_byte_shown : (register : ℕ) → List Now → Sent
+abbrev pub next_byte_shown : (register : ℕ) → List Now → Option ℕ
 next_byte_shown a ns = shown (drop 15 ns) (next_register a)
 
 -- bytes from a register on, the first of them fetched before
-unfoldable pub three_wire_bytes : (register : ℕ) → Sent → List Levels8 → List Now → List Seen
+unfoldable pub three_wire_bytes : (register : ℕ) → Option ℕ → List Levels8 → List Now → List Seen
 three_wire_bytes a t [] ns = []
 three_wire_bytes a t (o ∷ os) ns = three_wire_byte a t (next_byte_shown a ns) ++ three_wire_bytes (next_register a) (next_byte_shown a ns) os (drop 16 ns)
 
 -- the byte on the pin after them
-unfoldable pub sent_after : (register : ℕ) → Sent → List Levels8 → List Now → Sent
+unfoldable pub sent_after : (register : ℕ) → Option ℕ → List Levels8 → List Now → Option ℕ
 sent_after a t [] ns = t
 sent_after a t (o ∷ os) ns = sent_after (next_register a) (next_byte_shown a ns) os (drop 16 ns)
 
@@ -126,8 +124,8 @@ three_wire_answer a os ns =
 
 -- the byte of a register is to be fetched next, in three-wire mode after a turnaround
 abbrev pub to_read : (register : ℕ) → Drive → (turnaround : Bool) → Frame
-to_read a d turnaround = record { serial = S.Read a; selected = true; rx = 0; rx_bits = 0; tx = T.Nothing; tx_bit = 0; driven = d; turnaround = turnaround }
+to_read a d turnaround = record { serial = S.Read a; selected = true; rx = 0; rx_bits = 0; tx = None; tx_bit = 0; driven = d; turnaround = turnaround }
 
 -- the first bit of a register's byte is on the pin, and none of its rises came
-abbrev pub first_shown : (register : ℕ) → Sent → Frame
+abbrev pub first_shown : (register : ℕ) → Option ℕ → Frame
 first_shown a t = record { serial = S.Read a; selected = true; rx = 0; rx_bits = 0; tx = t; tx_bit = 1; driven = drive_for t 7; turnaround = false }

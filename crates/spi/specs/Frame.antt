@@ -1,19 +1,14 @@
 -- The SPI frame: address byte with the read bit, then one value, or bytes that move on.
-use Rattle.std.specs.Prelude.{ℕ, ◌+◌, ◌%◌, Bool, true, false, not, ◌&&◌, ◌||◌, leb, ltb, eqb, if◌then◌else◌}
+use Rattle.std.specs.Prelude.{ℕ, ◌+◌, ◌%◌, Bool, true, false, not, ◌&&◌, ◌||◌, leb, ltb, eqb, if◌then◌else◌, Option, Some, None}
 use Rattle.laws.specs.Notation.{Byte}
 use Rattle.laws.specs.Bytes.{sent_bit, shifted_in}
 use Rattle.spi.specs.declared.types.Serial.{Serial}
 use Rattle.spi.specs.declared.types.Serial.TheVariants as S
 use Rattle.spi.specs.declared.types.Drive.{Drive}
 use Rattle.spi.specs.declared.types.Drive.TheVariants as D
-use Rattle.spi.specs.declared.types.Sent.{Sent}
-use Rattle.spi.specs.declared.types.Sent.TheVariants as T
 use Rattle.spi.specs.declared.types.Clocked.{Clocked}
 use Rattle.spi.specs.declared.types.Clocked.TheVariants as C
 use Rattle.spi.specs.declared.types.Frame.{Frame}
-use Rattle.spi.specs.declared.types.FirstBit.{FirstBit}
-use Rattle.spi.specs.declared.types.FirstBit.TheVariants as K
-use Rattle.spi.specs.declared.types.Write.TheVariants as W
 use Rattle.spi.specs.declared.types.Taken.{Taken}
 use Rattle.spi.specs.declared.types.Shift.{Shift}
 use Rattle.spi.specs.declared.types.Shift.TheVariants as H
@@ -22,7 +17,7 @@ use Rattle.spi.specs.declared.types.Shift.TheVariants as H
 
 -- a frame before its first bit: an address byte comes, nothing is sent
 abbrev pub fresh : (selected : Bool) → Frame
-fresh selected = record { serial = S.Address; selected = selected; rx = 0; rx_bits = 0; tx = T.Nothing; tx_bit = 8; driven = D.Floating; turnaround = false }
+fresh selected = record { serial = S.Address; selected = selected; rx = 0; rx_bits = 0; tx = None; tx_bit = 8; driven = D.Floating; turnaround = false }
 
 -- a change of the select pin drops the frame; without one nothing happens (`set_selected`)
 unfoldable pub differs : (was selected : Bool) → Bool
@@ -43,10 +38,10 @@ reads (S.Read a) = true
 reads (S.Write a) = false
 
 -- the first bit of a byte that is read notes the read (`acknowledge_read`)
-unfoldable pub first_bit : Serial → (bits : ℕ) → FirstBit
-first_bit S.Address bits = K.Nothing
-first_bit (S.Read a) bits = if eqb bits 0 then K.Register a else K.Nothing
-first_bit (S.Write a) bits = K.Nothing
+unfoldable pub first_bit : Serial → (bits : ℕ) → Option ℕ
+first_bit S.Address bits = None
+first_bit (S.Read a) bits = if eqb bits 0 then Some a else None
+first_bit (S.Write a) bits = None
 
 -- one of the first seven bits of a byte
 abbrev pub bit_taken : Frame → (mosi : Bool) → Frame
@@ -81,7 +76,7 @@ next_read f a turnaround = record {
   selected = f.selected;
   rx = 0;
   rx_bits = 0;
-  tx = T.Nothing;
+  tx = None;
   tx_bit = 0;
   driven = f.driven;
   turnaround = turnaround;
@@ -93,13 +88,13 @@ addressed f byte four_wire = if ltb byte 128 then next_byte f (S.Write byte) els
 
 -- the eighth bit: a write is done with its value byte, a read moves on modulo 128
 unfoldable pub completed : Serial → Frame → (byte : Byte) (four_wire : Bool) → Taken
-completed S.Address f byte four_wire = record { frame = addressed f byte four_wire; write = W.Nothing }
-completed (S.Read a) f byte four_wire = record { frame = next_read f ((a + 1) % 128) f.turnaround; write = W.Nothing }
-completed (S.Write a) f byte four_wire = record { frame = next_byte f S.Address; write = W.Register a byte }
+completed S.Address f byte four_wire = record { frame = addressed f byte four_wire; write = None }
+completed (S.Read a) f byte four_wire = record { frame = next_read f ((a + 1) % 128) f.turnaround; write = None }
+completed (S.Write a) f byte four_wire = record { frame = next_byte f S.Address; write = Some (a, byte) }
 
 unfoldable pub take_bit : Frame → (mosi four_wire : Bool) → Taken
 take_bit f mosi four_wire =
-    if ltb f.rx_bits 7 then record { frame = bit_taken f mosi; write = W.Nothing } else completed f.serial f (shifted_in f.rx mosi) four_wire
+    if ltb f.rx_bits 7 then record { frame = bit_taken f mosi; write = None } else completed f.serial f (shifted_in f.rx mosi) four_wire
 
 -- ---- the output
 
@@ -126,9 +121,9 @@ turned f = record { serial = f.serial; selected = f.selected; rx = f.rx; rx_bits
 unfoldable pub bit_drive : ℕ → ℕ → Drive
 bit_drive b n = if sent_bit b n then D.High else D.Low
 
-unfoldable pub level : Sent → (selected : Bool) (n : ℕ) → Drive
-level T.Nothing selected n = D.Floating
-level (T.Byte b) selected n = if selected && ltb n 8 then bit_drive b n else D.Floating
+unfoldable pub level : Option ℕ → (selected : Bool) (n : ℕ) → Drive
+level None selected n = D.Floating
+level (Some b) selected n = if selected && ltb n 8 then bit_drive b n else D.Floating
 
 -- the place of the next bit, 8 past the last
 unfoldable pub next_bit : ℕ → ℕ
@@ -148,7 +143,7 @@ released f = record {
 }
 
 -- the next bit of a byte is driven
-abbrev pub showing : Frame → (tx : Sent) → Frame
+abbrev pub showing : Frame → (tx : Option ℕ) → Frame
 showing f tx = record {
   serial = f.serial;
   selected = f.selected;
@@ -161,16 +156,16 @@ showing f tx = record {
 }
 
 -- the output moves on, with the byte now being sent (`shift_output`); outside a read it floats
-unfoldable pub moved : Serial → Frame → (tx : Sent) → Frame
+unfoldable pub moved : Serial → Frame → (tx : Option ℕ) → Frame
 moved S.Address f tx = released f
 moved (S.Read a) f tx = showing f tx
 moved (S.Write a) f tx = released f
 
-abbrev pub shifted : Frame → (tx : Sent) → Frame
+abbrev pub shifted : Frame → (tx : Option ℕ) → Frame
 shifted f tx = moved f.serial f tx
 
 -- the byte being sent is another, or none (I2C shares it)
-abbrev pub sending : Frame → (tx : Sent) → Frame
+abbrev pub sending : Frame → (tx : Option ℕ) → Frame
 sending f tx = record {
   serial = f.serial;
   selected = f.selected;

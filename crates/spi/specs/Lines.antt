@@ -1,14 +1,8 @@
 -- What a selected sensor does at each edge of the clock, with its wire mode and what its registers show at that edge.
-use Rattle.std.specs.Prelude.{ℕ, Bool, true, List, [], ◌∷◌, ◌++◌, get_or, drop, if◌then◌else◌}
+use Rattle.std.specs.Prelude.{ℕ, Bool, true, List, [], ◌∷◌, ◌++◌, get_or, drop, if◌then◌else◌, Option, Some, None}
 use Rattle.spi.specs.declared.types.Drive.{Drive}
-use Rattle.spi.specs.declared.types.Sent.{Sent}
-use Rattle.spi.specs.declared.types.Sent.TheVariants as T
 use Rattle.spi.specs.declared.types.Clocked.TheVariants as C
 use Rattle.spi.specs.declared.types.Frame.{Frame}
-use Rattle.spi.specs.declared.types.FirstBit.{FirstBit}
-use Rattle.spi.specs.declared.types.FirstBit.TheVariants as K
-use Rattle.spi.specs.declared.types.Write.{Write}
-use Rattle.spi.specs.declared.types.Write.TheVariants as W
 use Rattle.spi.specs.declared.types.Taken.{Taken}
 use Rattle.spi.specs.declared.types.Shift.{Shift}
 use Rattle.spi.specs.declared.types.Shift.TheVariants as H
@@ -31,12 +25,12 @@ pub data Deed : Type 0 where
 pub record Now : Type 0 where
   pub four_wire : Bool
   pub four_wire_then : Bool
-  pub shows : ℕ → Sent
+  pub shows : ℕ → Option ℕ
 
 -- ---- the frame after an event
 
 -- the output moves: it fetches a byte first, or goes on with the byte being sent
-unfoldable pub output : (shows : ℕ → Sent) → Frame → Shift → Frame
+unfoldable pub output : (shows : ℕ → Option ℕ) → Frame → Shift → Frame
 output shows f H.Stay = f
 output shows f (H.Fetch a) = shifted f (shows a)
 output shows f H.Next = shifted f f.tx
@@ -64,14 +58,14 @@ serve n f Fall = output n.shows f (fall_shift n f)
 -- ---- what is done at an event
 
 -- the note of a read as a deed
-unfoldable pub noted : FirstBit → List Deed
-noted K.Nothing = []
-noted (K.Register a) = Noted a ∷ []
+unfoldable pub noted : Option ℕ → List Deed
+noted None = []
+noted (Some a) = Noted a ∷ []
 
 -- the write of a completed frame as a deed
-unfoldable pub wrote : Write → List Deed
-wrote W.Nothing = []
-wrote (W.Register a x) = Wrote a x ∷ []
+unfoldable pub wrote : Option (ℕ × ℕ) → List Deed
+wrote None = []
+wrote (Some (a, x)) = Wrote a x ∷ []
 
 -- the fetch of a byte as a deed
 unfoldable pub fetched : Shift → List Deed
@@ -80,7 +74,7 @@ fetched (H.Fetch a) = Fetched a ∷ []
 fetched H.Next = []
 
 -- what a rise outside a turnaround does: the note, the write, the fetch
-abbrev pub bit_deeds : Now → FirstBit → Taken → List Deed
+abbrev pub bit_deeds : Now → Option ℕ → Taken → List Deed
 bit_deeds n k t = noted k ++ (wrote t.write ++ fetched (rise_shift n t))
 
 -- what an event does, in order
@@ -110,14 +104,14 @@ seen_at n f e = record { driven = (serve n f e).driven; sampled = samples n f e;
 
 -- past the end of the list: four-wire, with each register withheld
 abbrev pub past_end : Now
-past_end = record { four_wire = true; four_wire_then = true; shows = λ a. T.Nothing }
+past_end = record { four_wire = true; four_wire_then = true; shows = λ a. None }
 
 -- the sensor at the first event of a list
 abbrev pub now : List Now → Now
 now ns = get_or ns 0 past_end
 
 -- the byte that a register then shows to a fetch
-abbrev pub shown : List Now → (register : ℕ) → Sent
+abbrev pub shown : List Now → (register : ℕ) → Option ℕ
 shown ns a = (now ns).shows a
 
 -- the frame that the events leave

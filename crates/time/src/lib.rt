@@ -8,11 +8,11 @@ ghost use Rattle.time.specs.Clock as C;
 use std::num::wrapping_add_u64;
 
 // A moment: whole seconds and a fraction in units of 2^-64 s.
-#[derive(Clone, Copy)]
+#[derive(Clone, Copy, PartialEq, Eq, PartialOrd, Ord)]
 pub struct Time(pub u64, pub u64);
 
 // A length of time: whole seconds and a fraction in units of 2^-64 s.
-#[derive(Clone, Copy)]
+#[derive(Clone, Copy, PartialEq, Eq, PartialOrd, Ord)]
 pub struct Duration(pub u64, pub u64);
 
 // The clock that samples: its start, and the number of the last edge that it advanced to.

@@ -1,15 +1,14 @@
 -- A due moment is served (`at_deadline`), step by step in the Rust's order.
-use Rattle.std.specs.Prelude.{◌%◌, Bool, true, ◌&&◌, eqb, set, if◌then◌else◌}
+use Rattle.sensor.specs.Operation.{Operation}
+use Rattle.std.specs.Prelude.{◌%◌, Bool, true, ◌&&◌, eqb, set, if◌then◌else◌, Some, None}
 use Rattle.laws.specs.Notation.{Byte, Address}
 use Rattle.time.specs.declared.Time.{Time}
 use Rattle.time.specs.Time.{same, from_millis}
 use Rattle.time.specs.Clock as Clock
 use Rattle.nv.specs.Cycle as Cycle
-use Rattle.deadlines.specs.declared.Deadline.TheVariants.{Never}
 use Rattle.deadlines.specs.Deadlines.{is_at, unless_at, with_serial_ready, with_quiet, with_irq_hold, with_image, with_wake}
 use Rattle.registers.specs.Map.{at, control, without_update_image}
 use Rattle.sampling.specs.Phase.{with_clock}
-use Rattle.sensor.specs.declared.types.Operation.{Operation}
 use Rattle.waits.specs.declared.types.Report.{Report}
 use Rattle.waits.specs.declared.types.Served.{Served}
 use Rattle.sensor.specs.declared.types.Sensor.{Sensor}
@@ -40,14 +39,14 @@ completed s address value =
     }
 
 unfoldable pub write_ended : Operation → Sensor → (now : Time) → Served
-write_ended Operation.Idle s now = without_report s
-write_ended (Operation.Running w address value) s now = if same (Cycle.deadline w) now then completed s address value else without_report s
+write_ended None s now = without_report s
+write_ended (Some (w, address, value)) s now = if same (Cycle.deadline w) now then completed s address value else without_report s
 
 -- an image copy that ends now: update_image is cleared
 abbrev pub image_loaded : Sensor → Sensor
 image_loaded s =
     let t = copy_image s in
-    with_registers (with_deadlines t (with_image t.deadlines Never)) (set t.registers control (without_update_image (at t.registers control)))
+    with_registers (with_deadlines t (with_image t.deadlines None)) (set t.registers control (without_update_image (at t.registers control)))
 
 unfoldable pub image_ended : Sensor → (now : Time) → Sensor
 image_ended s now = if is_at s.deadlines.image now then image_loaded s else s
@@ -56,7 +55,7 @@ image_ended s now = if is_at s.deadlines.image now then image_loaded s else s
 unfoldable pub wake_ended : Sensor → (now : Time) → Sensor
 wake_ended s now =
     if is_at s.deadlines.wake now
-    then with_sampling (with_deadlines s (with_wake s.deadlines Never)) (with_clock s.sampling (Clock.started now))
+    then with_sampling (with_deadlines s (with_wake s.deadlines None)) (with_clock s.sampling (Clock.started now))
     else s
 
 -- a sample is at this moment
@@ -86,7 +85,7 @@ sample_served s now was_criterion hold_ended =
 abbrev pub waits_served : Sensor → (now : Time) → Served
 waits_served s now =
     let p = pause_ended (waits_ended s now) now in
-    let w = write_ended p.writing.operation p now in
+    let w = write_ended p.writing p now in
     record { sensor = wake_ended (image_ended w.sensor now) now; report = w.report }
 
 -- automatic mode comes last

@@ -1,5 +1,6 @@
 -- Supply, acceleration and temperature.
-use Rattle.std.specs.Prelude.{ℕ, Bool, true, false, ltb, eqb, ℤ, if◌then◌else◌}
+use Rattle.sensor.specs.Operation.{Operation}
+use Rattle.std.specs.Prelude.{ℕ, Bool, true, false, ltb, eqb, ℤ, if◌then◌else◌, Option, Some, None}
 use Rattle.laws.specs.Notation.{Byte, Address}
 use Rattle.time.specs.declared.Time.{Time}
 use Rattle.time.specs.declared.Duration.{Duration}
@@ -8,12 +9,9 @@ use Rattle.nv.specs.declared.WriteCycle.{WriteCycle}
 use Rattle.nv.specs.Cell.{cell_number}
 use Rattle.nv.specs.Cycle.{byte_at}
 use Rattle.i2c.specs.Engine as E
-use Rattle.deadlines.specs.declared.Deadline.{Deadline}
-use Rattle.deadlines.specs.declared.Deadline.TheVariants.{At, Never}
 use Rattle.deadlines.specs.Deadlines.{shifted}
 use Rattle.sampling.specs.declared.types.Sampling.{Sampling}
 use Rattle.sampling.specs.Stage as Stage
-use Rattle.sensor.specs.declared.types.Operation.{Operation}
 use Rattle.waits.specs.declared.types.Report.{Report}
 use Rattle.waits.specs.declared.types.Served.{Served}
 use Rattle.sensor.specs.declared.types.Sensor.{Sensor}
@@ -30,22 +28,22 @@ without_report s = record { sensor = s; report = Report.Nothing }
 
 -- a stored write is over: its cell holds this byte, and none runs
 abbrev pub write_over : Sensor → (address : Address) (value : Byte) → Sensor
-write_over s address value = with_writing (with_nonvolatile s (with_cell s.nonvolatile address value)) (record { operation = Operation.Idle })
+write_over s address value = with_writing (with_nonvolatile s (with_cell s.nonvolatile address value)) (None)
 
 -- 01: a running write is cut, and its cell holds the torn byte
 abbrev pub torn : WriteCycle → Sensor → (address : Address) (value : Byte) (now : Time) → ℕ
 torn w s address value now = byte_at w (cell_byte s.nonvolatile address) value (cell_number address) now
 
 unfoldable pub cut : Operation → Sensor → (now : Time) → Served
-cut Operation.Idle s now = without_report s
-cut (Operation.Running w address value) s now =
+cut None s now = without_report s
+cut (Some (w, address, value)) s now =
     record { sensor = write_over s address (torn w s address value now); report = Report.Cut address (torn w s address value now) }
 
 -- deselected, the engine aborted, off since now
 abbrev pub off : Sensor → (now : Time) (cold : Bool) → Sensor
 off s now cold =
     let t = set_selected s false in
-    with_supply (with_i2c t (E.aborted t.i2c)) (record { unpowered_since = At now; cold = cold })
+    with_supply (with_i2c t (E.aborted t.i2c)) (record { unpowered_since = Some now; cold = cold })
 
 -- awake, the stage is brought up to now first
 abbrev pub held : Sensor → (now : Time) → Sensor
@@ -54,7 +52,7 @@ held s now = with_sampling s (Stage.held s.sampling now s.kept.input)
 -- (`power_off`, called only with supply); 0 mV makes the return a cold one
 abbrev pub power_off : Sensor → (now : Time) (cold : Bool) → Served
 power_off s now cold =
-    let c = cut s.writing.operation (held s now) now in
+    let c = cut s.writing (held s now) now in
     record { sensor = off c.sensor now cold; report = c.report }
 
 -- while off only 0 mV matters
@@ -64,9 +62,9 @@ zero_while_off s zero_volt = if zero_volt then with_supply s (record { unpowered
 -- ---- return of supply
 
 -- the length without supply
-unfoldable pub outage : Deadline → (now : Time) → Duration
-outage Never now = since now now
-outage (At t) now = since now t
+unfoldable pub outage : Option Time → (now : Time) → Duration
+outage None now = since now now
+outage (Some t) now = since now t
 
 -- a sensor that was awake acquires anew, ready after 1 ms
 unfoldable pub reacquired : Sensor → (now : Time) → Sensor
@@ -76,7 +74,7 @@ reacquired s now = if s.sampling.asleep then s else start_acquisition s now (fro
 abbrev pub warm_return : Sensor → (now : Time) → Sensor
 warm_return s now =
     reacquired
-    (with_supply (with_deadlines s (shifted s.deadlines (outage s.supply.unpowered_since now))) (record { unpowered_since = Never; cold = s.supply.cold }))
+    (with_supply (with_deadlines s (shifted s.deadlines (outage s.supply.unpowered_since now))) (record { unpowered_since = None; cold = s.supply.cold }))
     now
 
 abbrev pub cold_return : Sensor → (now : Time) → Sensor

@@ -62,12 +62,12 @@ fn completed(sensor: Sensor, address: u8, value: u8) -> Served
 }
 
 #[tactic(auto, unfolding(crate::specs::Due::write_ended))]
-fn write_ended(sensor: Sensor, operation: Operation, now: Time) -> Served
+fn write_ended(sensor: Sensor, operation: Option<(WriteCycle, u8, u8)>, now: Time) -> Served
     ensures { result ≡ D.write_ended operation sensor now }
 {
     match operation {
-        Operation::Idle => without_report(sensor),
-        Operation::Running(w, address, value) => {
+        None => without_report(sensor),
+        Some((w, address, value)) => {
             let end = w.deadline();
             if end.same(now) {
                 return completed(sensor, address, value);
@@ -82,7 +82,7 @@ fn image_loaded(sensor: Sensor) -> Sensor
 {
     let mut s = sensor.copy_image();
     let d = s.deadlines;
-    s.deadlines = d.with_image(Deadline::Never);
+    s.deadlines = d.with_image(None);
     s.registers[CONTROL] = s.registers[CONTROL] & 0xdf;
     s
 }
@@ -107,7 +107,7 @@ fn wake_ended(sensor: Sensor, now: Time) -> Sensor
     let wake = d.wake;
     if wake.is_at(now) {
         let mut s = sensor;
-        s.deadlines = d.with_wake(Deadline::Never);
+        s.deadlines = d.with_wake(None);
         let mut g = s.sampling;
         g.clock = Clock::new(now);
         s.sampling = g;

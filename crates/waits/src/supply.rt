@@ -10,12 +10,12 @@ use sensor::types::{Operation, Sensor, Supply, Writing};
 use time::{Duration, Time};
 
 #[tactic(auto, unfolding(crate::specs::Supply::outage))]
-fn outage(since: Deadline, now: Time) -> Duration
+fn outage(since: Option<Time>, now: Time) -> Duration
     ensures { result ≡ Sup.outage since now }
 {
     match since {
-        Deadline::At(t) => now.since(t),
-        Deadline::Never => now.since(now),
+        Some(t) => now.since(t),
+        None => now.since(now),
     }
 }
 
@@ -35,7 +35,7 @@ pub fn write_over(sensor: Sensor, address: u8, value: u8) -> Sensor
     let image = sensor.nonvolatile;
     let stored = with_cell(image, address, value);
     let idle = Writing {
-        operation: Operation::Idle,
+        operation: None,
     };
     let mut s = sensor;
     s.nonvolatile = stored;
@@ -44,12 +44,12 @@ pub fn write_over(sensor: Sensor, address: u8, value: u8) -> Sensor
 }
 
 #[tactic(auto, unfolding(crate::specs::Supply::cut))]
-fn cut(sensor: Sensor, operation: Operation, now: Time) -> Served
+fn cut(sensor: Sensor, operation: Option<(WriteCycle, u8, u8)>, now: Time) -> Served
     ensures { result ≡ Sup.cut operation sensor now }
 {
     match operation {
-        Operation::Idle => without_report(sensor),
-        Operation::Running(w, address, value) => {
+        None => without_report(sensor),
+        Some((w, address, value)) => {
             let image = sensor.nonvolatile;
             let old = cell_byte(image, address);
             let byte = w.byte(old, value, 0x20000 + address as u32, now);
@@ -66,7 +66,7 @@ fn off(sensor: Sensor, now: Time, cold: bool) -> Sensor
     ensures { result ≡ Sup.off sensor now cold }
 {
     let v = Supply {
-        unpowered_since: Deadline::At(now),
+        unpowered_since: Some(now),
         cold: cold,
     };
     let mut s = sensor.set_selected(false);
@@ -137,7 +137,7 @@ fn warm_return(sensor: Sensor, now: Time) -> Sensor
     let v = sensor.supply;
     let since = v.unpowered_since;
     let w = Supply {
-        unpowered_since: Deadline::Never,
+        unpowered_since: None,
         cold: v.cold,
     };
     let mut s = sensor;

@@ -1,21 +1,18 @@
 -- Register writes (`write_register`).
-use Rattle.std.specs.Prelude.{Bool, true, false, set, if◌then◌else◌}
+use Rattle.std.specs.Prelude.{Bool, true, false, set, if◌then◌else◌, Some, None}
 use Rattle.laws.specs.Notation.{Byte, Address}
 use Rattle.time.specs.declared.Time.{Time}
 use Rattle.time.specs.Time.{plus, from_millis, from_micros}
 use Rattle.nv.specs.Cycle as Cycle
 use Rattle.filter.specs.Filter.{selected}
 use Rattle.interrupts.specs.State as I
-use Rattle.deadlines.specs.declared.Deadline.TheVariants.{At, Never}
 use Rattle.deadlines.specs.Deadlines.{with_irq_hold, with_image}
 use Rattle.control.specs.declared.types.WriteKind.{WriteKind}
 use Rattle.control.specs.declared.types.SelfTest.{SelfTest}
 use Rattle.control.specs.declared.types.Sleep.{Sleep}
 use Rattle.control.specs.Kinds as Kinds
 use Rattle.registers.specs.Map.{at, status, control, measurement, operation, bandwidth, without_st_result}
-use Rattle.sampling.specs.declared.types.Test.TheVariants as Test
 use Rattle.sampling.specs.Phase.{with_test}
-use Rattle.sensor.specs.declared.types.Operation.TheVariants as Operation
 use Rattle.sensor.specs.declared.types.Sensor.{Sensor}
 use Rattle.sensor.specs.Record.{put, with_registers, with_reads, with_sampling, with_deadlines, with_writing, with_interrupts, gate, automatic, is_writing, with_filter, with_cycles, with_ready}
 use Rattle.sensor.specs.Image.{shadowing}
@@ -32,7 +29,7 @@ recounted s again =
 abbrev pub interrupts_reset : Sensor → Sensor
 interrupts_reset s =
     recounted
-    (with_interrupts (with_deadlines (with_sampling s (with_ready s.sampling false)) (with_irq_hold s.deadlines Never)) (I.reset s.interrupts s.registers))
+    (with_interrupts (with_deadlines (with_sampling s (with_ready s.sampling false)) (with_irq_hold s.deadlines None)) (I.reset s.interrupts s.registers))
     (automatic s)
 
 unfoldable pub interrupts_written : Sensor → (value : Byte) → Sensor
@@ -41,8 +38,8 @@ interrupts_written s value = if Kinds.resets_interrupts value then interrupts_re
 -- the self test lasts four phases and clears st_result until it ends
 unfoldable pub tested : SelfTest → Sensor → Sensor
 tested SelfTest.Starts s =
-    with_sampling (with_registers s (set s.registers status (without_st_result (at s.registers status)))) (with_test s.sampling (Test.Phases 4))
-tested SelfTest.Stops s = with_sampling s (with_test s.sampling Test.Off)
+    with_sampling (with_registers s (set s.registers status (without_st_result (at s.registers status)))) (with_test s.sampling (Some 4))
+tested SelfTest.Stops s = with_sampling s (with_test s.sampling None)
 tested SelfTest.Stays s = s
 
 -- a wake is ready after 1 ms
@@ -53,7 +50,7 @@ slept Sleep.Stays s now = s
 
 -- an image copy lasts 300 µs
 unfoldable pub image_written : Sensor → (value : Byte) (now : Time) → Sensor
-image_written s value now = if Kinds.copies_image value then with_deadlines s (with_image s.deadlines (At (plus now (from_micros 300)))) else s
+image_written s value now = if Kinds.copies_image value then with_deadlines s (with_image s.deadlines (Some (plus now (from_micros 300)))) else s
 
 -- sleep or wake, then the copy
 abbrev pub sleep_written : Sensor → (value : Byte) (now : Time) → Sensor
@@ -72,7 +69,7 @@ measurement_written s value =
 
 -- automatic mode switched: the hold is dropped and acquisition counted anew
 unfoldable pub mode_written : Sensor → (turns : Bool) → Sensor
-mode_written s turns = if turns then with_deadlines (recounted s true) (with_irq_hold s.deadlines Never) else s
+mode_written s turns = if turns then with_deadlines (recounted s true) (with_irq_hold s.deadlines None) else s
 
 abbrev pub operation_written : Sensor → (value : Byte) → Sensor
 operation_written s value =
@@ -96,7 +93,7 @@ register_effect WriteKind.Plain s address value now = put s address value
 
 -- 01: a stored write begins
 abbrev pub begun : Sensor → (address : Address) (value : Byte) (now : Time) → Sensor
-begun s address value now = with_writing s (record { operation = Operation.Running (Cycle.start now) address value })
+begun s address value now = with_writing s (Some (Cycle.start now, address, value))
 
 -- a write to a register lets automatic mode follow
 abbrev pub then_automatic : WriteKind → Sensor → (address : Address) (value : Byte) (now : Time) → Sensor

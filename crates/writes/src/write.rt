@@ -39,7 +39,7 @@ fn interrupts_reset(sensor: Sensor) -> Sensor
     g.data_ready = false;
     s.sampling = g;
     let d = s.deadlines;
-    s.deadlines = d.with_irq_hold(Deadline::Never);
+    s.deadlines = d.with_irq_hold(None);
     let i = s.interrupts;
     let r = s.registers;
     s.interrupts = i.reset(r);
@@ -65,11 +65,11 @@ fn tested(sensor: Sensor, t: SelfTest) -> Sensor
     match t {
         SelfTest::Starts => {
             s.registers[STATUS] = s.registers[STATUS] & 0x7f;
-            s.sampling = g.with_test(Test::Phases(4));
+            s.sampling = g.with_test(Some(4));
             s
         }
         SelfTest::Stops => {
-            s.sampling = g.with_test(Test::Off);
+            s.sampling = g.with_test(None);
             s
         }
         SelfTest::Stays => s,
@@ -94,7 +94,7 @@ fn image_written(sensor: Sensor, value: u8, now: Time) -> Sensor
     if copies_image(value) {
         let mut s = sensor;
         let d = s.deadlines;
-        s.deadlines = d.with_image(Deadline::At(now.plus(Duration::from_micros(300))));
+        s.deadlines = d.with_image(Some(now.plus(Duration::from_micros(300))));
         return s;
     }
     sensor
@@ -138,7 +138,7 @@ fn mode_written(sensor: Sensor, turns: bool) -> Sensor
     if turns {
         let d = sensor.deadlines;
         let mut s = recounted(sensor, true);
-        s.deadlines = d.with_irq_hold(Deadline::Never);
+        s.deadlines = d.with_irq_hold(None);
         return s;
     }
     sensor
@@ -186,7 +186,7 @@ fn begun(sensor: Sensor, address: u8, value: u8, now: Time) -> Sensor
 {
     let c = WriteCycle::start(now);
     let w = Writing {
-        operation: Operation::Running(c, address, value),
+        operation: Some((c, address, value)),
     };
     let mut s = sensor;
     s.writing = w;

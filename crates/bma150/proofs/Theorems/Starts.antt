@@ -1,11 +1,10 @@
 -- Starts by command 01's call and by command 0c's.
-use Rattle.std.specs.Prelude.{ℕ, ◌^◌, ◌<◌, ◌≤◌, ◌≡◌, refl, false, List, eqb, length, take}
+use Rattle.std.specs.Prelude.{ℕ, ◌^◌, ◌<◌, ◌≤◌, ◌≡◌, refl, false, List, eqb, length, take, Some}
 use Rattle.std.proofs.Common.{arith, sym, ap, ◌∙◌, inl, inr, get_or-take, length-take-le}
 use Rattle.std.proofs.Math.ListN.{get_or-append}
 use Rattle.time.specs.declared.Time.{Time}
 use Rattle.time.specs.Time.{time}
 use Rattle.calls.specs.declared.types.Starting.{Starting}
-use Rattle.calls.specs.declared.types.Bytes.TheVariants as Bytes
 use Rattle.calls.specs.Table.{wrong_length, late, reserved, turned_down, first_found, start_refusal}
 use Rattle.calls.specs.Theorems.Exactly.{Reserved, TurnedDown}
 use Rattle.calls.proofs.Theorems.Left.{accepted_is, start_clear}
@@ -33,7 +32,7 @@ pub stored_accepted : (now : Time) (image : List ℕ) → length image ≡ 19 �
 stored_accepted now image size early = start_accepted Starting.Stored now image size (λ never. never) early
 
 -- where 01's call accepts, 0c's hands out the same sensor
-stored_clear : (now : Time) (n m : ℕ) → wrong_length (Bytes.Count n) ≡ false → late now ≡ false → start_refusal Starting.Stored now n m ≡ 0
+stored_clear : (now : Time) (n m : ℕ) → wrong_length (Some n) ≡ false → late now ≡ false → start_refusal Starting.Stored now n m ≡ 0
 unfolding start_refusal first_found turned_down
 stored_clear now n m size early = rw (size, early)
 

@@ -1,9 +1,8 @@
 -- The values fix the answers.
-use Rattle.std.specs.Prelude.{ℕ, ◌≡◌, refl, List, get_or}
+use Rattle.std.specs.Prelude.{ℕ, ◌≡◌, refl, List, get_or, Option, Some, None}
 use Rattle.std.proofs.Common.{ap, arith}
 use Rattle.spi.specs.declared.types.Drive.{Drive}
 use Rattle.waits.specs.declared.types.Report.{Report}
-use Rattle.sensor.specs.declared.types.View.{View}
 use Rattle.bma150.specs.Values.{drive_letter, report_values, view_value}
 
 pub drive_letter_injective : (a b : Drive) → drive_letter a ≡ drive_letter b → a ≡ b
@@ -30,9 +29,9 @@ report_values_injective (Report.Cut c v) Report.Nothing p = cc
 report_values_injective (Report.Cut c v) (Report.Completed d w) p = let z : ◌≡◌ {A = ℕ} 0x58 0x43 = ap (λ (l : List ℕ). get_or l 0 0) p in absurd (omega arith)
 report_values_injective (Report.Cut c v) (Report.Cut d w) p = cc
 
-pub view_value_injective : (a b : View) → view_value a ≡ view_value b → a ≡ b
+pub view_value_injective : (a b : Option ℕ) → view_value a ≡ view_value b → a ≡ b
 unfolding view_value
-view_value_injective (View.Byte b) (View.Byte c) p = cc
-view_value_injective (View.Byte b) View.Withheld p = cc
-view_value_injective View.Withheld (View.Byte c) p = cc
-view_value_injective View.Withheld View.Withheld p = refl
+view_value_injective (Some b) (Some c) p = cc
+view_value_injective (Some b) None p = cc
+view_value_injective None (Some c) p = cc
+view_value_injective None None p = refl

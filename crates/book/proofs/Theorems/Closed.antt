@@ -1,10 +1,9 @@
 -- The book's cells are their closed form, for every accepted start and every list of calls.
-use Rattle.std.specs.Prelude.{ℕ, zero, suc, ◌+◌, ◌-◌, ◌≤◌, ◌<◌, ◌≡◌, refl, Bool, true, false, not, ◌&&◌, leb, ltb, length, get_or, set}
+use Rattle.std.specs.Prelude.{ℕ, zero, suc, ◌+◌, ◌-◌, ◌≤◌, ◌<◌, ◌≡◌, refl, Bool, true, false, not, ◌&&◌, leb, ltb, length, get_or, set, Option, Some, None}
 use Rattle.std.proofs.Common.{arith, le_of_suc-le-suc, add-zero, not-suc-le-zero, sym, subst, ◌∙◌, length-set, get_or-set_same, get_or-set_other, ext_get_or, leb-true, le-leb, eqb-true}
 use Rattle.std.proofs.Math.Path.{ap}
 use Rattle.std.proofs.Math.Bool.{cond}
 use mathlib.Core.List.{List, [], ◌∷◌, map}
-use Rattle.std.proofs.Math.Option.{Option, none, some}
 use Rattle.std.proofs.Math.Dec.{eqb}
 use Rattle.std.proofs.lemmas.List.{length-map}
 use Rattle.std.proofs.lemmas.Bool.{eqb-false}
@@ -14,7 +13,6 @@ use Rattle.time.specs.Time.{ticks}
 use Rattle.nv.specs.Cell.{write_length}
 use Rattle.registers.specs.declared.access.Gate.{Gate}
 use Rattle.registers.specs.Access.{stored, ignores, begins}
-use Rattle.spi.specs.declared.types.Write.{Write}
 use Rattle.calls.specs.declared.types.Call.{Call}
 use Rattle.calls.proofs.Theorems.Left.{start_length}
 use Rattle.sensor.specs.declared.types.Sensor.{Sensor}
@@ -62,7 +60,7 @@ cell_other image a v x e other = rw e (go (stored x) refl)
 -- every address is one of 2b..3d, and none but the latest runs
 abbrev Proper : List Wrote → Type 0
 Proper [] = Unit {0}
-Proper (w ∷ earlier) = (stored w.address ≡ true) × (that_runs earlier ≡ none) × Proper earlier
+Proper (w ∷ earlier) = (stored w.address ≡ true) × (that_runs earlier ≡ None) × Proper earlier
 
 -- a write that is over, or has time left, stays as it is
 stays : (f : Fate) (over : Bool) (w : Wrote) → is_running w.fate ≡ false → ended f over w ≡ w
@@ -86,19 +84,19 @@ abbrev all_ended : (Wrote → Fate) → (Wrote → Bool) → List Wrote → List
 all_ended f t l = map (λ (w : Wrote). ended (f w) (t w) w) l
 
 -- where none runs all stay
-none_ends : (f : Wrote → Fate) (t : Wrote → Bool) (l : List Wrote) → that_runs l ≡ none → all_ended f t l ≡ l
+none_ends : (f : Wrote → Fate) (t : Wrote → Bool) (l : List Wrote) → that_runs l ≡ None → all_ended f t l ≡ l
 unfolding that_runs
 none_ends f t [] e = refl
 none_ends f t (w ∷ l) e = go (is_running w.fate) refl e (none_ends f t l)
   where
-    go : (b : Bool) → is_running w.fate ≡ b → cond b (some (as_running w)) (that_runs l) ≡ none
-        → (that_runs l ≡ none → all_ended f t l ≡ l)
+    go : (b : Bool) → is_running w.fate ≡ b → cond b (Some (as_running w)) (that_runs l) ≡ None
+        → (that_runs l ≡ None → all_ended f t l ≡ l)
         → all_ended f t (w ∷ l) ≡ w ∷ l
     go true p q r = cc
     go false p q r = cc (stays (f w) (t w) w p, r q)
 
 -- the write that runs
-runs_first : (w : Wrote) (l : List Wrote) → is_running w.fate ≡ true → that_runs (w ∷ l) ≡ some (as_running w)
+runs_first : (w : Wrote) (l : List Wrote) → is_running w.fate ≡ true → that_runs (w ∷ l) ≡ Some (as_running w)
 unfolding that_runs
 runs_first w l e = rw e
 
@@ -165,8 +163,8 @@ closing image k w l f e n h =
 
 -- a step of the book that closes its running write where a test of it holds, and the same of the list
 over : (image : List ℕ) (k : Book) (f : Wrote → Fate) (t : Wrote → Bool) (next : Option Running → Book)
-    → next none ≡ k
-    → ((w : Wrote) → next (some (as_running w)) ≡ cond (t w) (left_closed k w (f w)) k)
+    → next None ≡ k
+    → ((w : Wrote) → next (Some (as_running w)) ≡ cond (t w) (left_closed k w (f w)) k)
     → ((w : Wrote) → is_running (f w) ≡ false)
     → (l : List Wrote) → Agrees image k l
     → Agrees image (next k.running) (all_ended f t l)
@@ -177,7 +175,7 @@ over image k f t next idle one last l h = same_agrees (by_list l h) (ap next h.r
     rest_stays w l h = ap (λ (x : List Wrote). ended (f w) (t w) w ∷ x) (none_ends f t l h.proper.1)
 
     by_test : (w : Wrote) (l : List Wrote) → Agrees image k (w ∷ l) → is_running w.fate ≡ true → (b : Bool) → t w ≡ b
-        → Agrees image (next (some (as_running w))) (ended (f w) (t w) w ∷ l)
+        → Agrees image (next (Some (as_running w))) (ended (f w) (t w) w ∷ l)
     by_test w l h e true p =
         same_agrees (closing image k w l (f w) e (last w) h)
         (one w ∙ ap (λ (b : Bool). cond b (left_closed k w (f w)) k) p)
@@ -206,19 +204,19 @@ completed_agrees image k l now h =
 
 supplied_agrees : (image : List ℕ) (k : Book) (l : List Wrote) (rail : Option ℕ) (now : Time) → Agrees image k l → Agrees image (supplied rail k now) (map (cut_at rail now) l)
 unfolding supplied cutting is_low left_by is_running
-supplied_agrees image k l none now h =
+supplied_agrees image k l None now h =
     over image k (λ w. Fate.cut (ticks now - ticks w.began)) (λ w. false) (λ r. k) refl (λ w. refl) (λ w. refl) l h
-supplied_agrees image k l (some rail) now h =
+supplied_agrees image k l (Some rail) now h =
     over image k (λ w. Fate.cut (ticks now - ticks w.began)) (λ w. ltb rail 2400) (λ r. cond (ltb rail 2400) (cutting r k now) k) (idle (ltb rail 2400)) (λ w. refl) (λ w. refl) l h
   where
     idle : (b : Bool) → cond b k k ≡ k
     idle true = refl
     idle false = refl
 
-none_runs : (r : Option Running) → runs r ≡ false → r ≡ none
+none_runs : (r : Option Running) → runs r ≡ false → r ≡ None
 unfolding runs
-none_runs none e = refl
-none_runs (some w) e = cc
+none_runs None e = refl
+none_runs (Some w) e = cc
 
 -- a write begins only at an address of 2b..3d and where none runs
 begins_where : (address value : ℕ) (g : Gate) (running : Bool) → begins address value g running ≡ true → (stored address ≡ true) × (running ≡ false)
@@ -231,8 +229,8 @@ begins_where address value g running e = go (stored address) running (ignores ad
     go false r i p = (cc, cc)
 
 -- it is put in front and leaves every cell
-write_agrees : (image : List ℕ) (k : Book) (l : List Wrote) (address value : ℕ) (now : Time) → Agrees image k l → stored address ≡ true → that_runs l ≡ none
-    → Agrees image (book k.cells (of_write (Write.Register address value) now) k.rest) (with_write (Write.Register address value) now l)
+write_agrees : (image : List ℕ) (k : Book) (l : List Wrote) (address value : ℕ) (now : Time) → Agrees image k l → stored address ≡ true → that_runs l ≡ None
+    → Agrees image (book k.cells (of_write (Some (address, value)) now) k.rest) (with_write (Some (address, value)) now l)
 unfolding of_write with_write that_runs is_running
 write_agrees image k l address value now h p q =
     record {
@@ -248,17 +246,17 @@ begun_agrees image k l a now h =
     same_agrees (by_write a.write) (ap (λ (r : Option Running). cond (accepted_write a.write a.meets (runs r)) (book k.cells (of_write a.write now) k.rest) k) h.running) refl
   where
     by_test : (address value : ℕ) (b : Bool) → begins address value (gate a.meets) (runs (that_runs l)) ≡ b
-        → Agrees image (cond b (book k.cells (of_write (Write.Register address value) now) k.rest) k) (cond b (with_write (Write.Register address value) now l) l)
+        → Agrees image (cond b (book k.cells (of_write (Some (address, value)) now) k.rest) k) (cond b (with_write (Some (address, value)) now l) l)
     by_test address value true p =
         let q = begins_where address value (gate a.meets) (runs (that_runs l)) p in
         write_agrees image k l address value now h q.0 (none_runs (that_runs l) q.1)
     by_test address value false p = h
 
-    by_write : (w : Write)
+    by_write : (w : Option (ℕ × ℕ))
         → Agrees image (cond (accepted_write w a.meets (runs (that_runs l))) (book k.cells (of_write w now) k.rest) k)
         (cond (accepted_write w a.meets (runs (that_runs l))) (with_write w now l) l)
-    by_write Write.Nothing = h
-    by_write (Write.Register address value) = by_test address value (begins address value (gate a.meets) (runs (that_runs l))) refl
+    by_write None = h
+    by_write (Some (address, value)) = by_test address value (begins address value (gate a.meets) (runs (that_runs l))) refl
 
 -- ---- one call, and every list of calls
 
@@ -286,8 +284,8 @@ entered_agrees image k c l later P h next = go (accepts (filled k) c) next
 
     by_time : (time : Option Time) → ((m : List Wrote) → Agrees image (with_rest (changed_at time (does c) k s) rest) m → P (written m later))
         → P (written l (with_entry time (does c) s later))
-    by_time none next = next l (rest_agrees rest h)
-    by_time (some now) next = next _ (rest_agrees rest (noted_agrees image k l (record { time = now; rail = (does c).rail; asked = (does c).asks s }) h))
+    by_time None next = next l (rest_agrees rest h)
+    by_time (Some now) next = next _ (rest_agrees rest (noted_agrees image k l (record { time = now; rail = (does c).rail; asked = (does c).asks s }) h))
 
     go : (b : Bool) → ((m : List Wrote) → Agrees image (cond b (with_rest (changed k s c) rest) k) m → P (written m later))
         → P (written l (cond b (with_entry (does c).time (does c) s later) later))
@@ -311,7 +309,7 @@ held_is image (w ∷ l) address = go (eqb w.address address) (held_is image l ad
   where
     go : (b : Bool) → held image l address ≡ told image address (latest address l)
         → cond b (left_by w.fate (held image l address) w.wanted address) (held image l address)
-        ≡ told image address (cond b (some (record { write = w; earlier = l })) (latest address l))
+        ≡ told image address (cond b (Some (record { write = w; earlier = l })) (latest address l))
     go true e = refl
     go false e = e
 
@@ -368,10 +366,10 @@ module _ (b : Start) (accepted : start_number b.by b.time b.image ≡ 0) (cs : L
   running_is = agrees.running
 
   -- none but the latest runs
-  pub latest_alone : (w : Wrote) (earlier : List Wrote) → writes b cs ≡ w ∷ earlier → that_runs earlier ≡ none
+  pub latest_alone : (w : Wrote) (earlier : List Wrote) → writes b cs ≡ w ∷ earlier → that_runs earlier ≡ None
   latest_alone w earlier e = (subst Proper e agrees.proper).1
 
   -- so the book has a running write exactly if the latest one runs
-  pub latest_runs : (w : Wrote) (earlier : List Wrote) → writes b cs ≡ w ∷ earlier → (booked (opened b) cs).running ≡ cond (is_running w.fate) (some (as_running w)) none
+  pub latest_runs : (w : Wrote) (earlier : List Wrote) → writes b cs ≡ w ∷ earlier → (booked (opened b) cs).running ≡ cond (is_running w.fate) (Some (as_running w)) None
   unfolding that_runs
-  latest_runs w earlier e = running_is ∙ ap that_runs e ∙ ap (λ (r : Option Running). cond (is_running w.fate) (some (as_running w)) r) (latest_alone w earlier e)
+  latest_runs w earlier e = running_is ∙ ap that_runs e ∙ ap (λ (r : Option Running). cond (is_running w.fate) (Some (as_running w)) r) (latest_alone w earlier e)

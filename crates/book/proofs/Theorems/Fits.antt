@@ -1,6 +1,5 @@
 -- What the one hypothesis of demand 3 leaves in: every call whose time, if it has one, has a fraction of 64 bits.
-use Rattle.std.specs.Prelude.{◌^◌, ◌<◌, ◌≡◌, refl, List, [], ◌∷◌}
-use Rattle.std.proofs.Math.Option.{some}
+use Rattle.std.specs.Prelude.{◌^◌, ◌<◌, ◌≡◌, refl, List, [], ◌∷◌, Some}
 use Rattle.time.specs.declared.Time.{Time}
 use Rattle.calls.specs.declared.types.Timed.TheVariants as Timed
 use Rattle.calls.specs.declared.types.Call.{Call}
@@ -9,7 +8,7 @@ use Rattle.book.specs.Lists.{Fits, Fractions}
 
 -- such a call
 abbrev pub Word : Call → Type 0
-Word c = (now : Time) → (does c).time ≡ some now → now.1 < 2 ^ 64
+Word c = (now : Time) → (does c).time ≡ Some now → now.1 < 2 ^ 64
 
 -- whatever its kind and its other arguments
 pub fits : (c : Call) → Word c → Fits c

@@ -1,5 +1,5 @@
 -- The writes that a list of calls makes are those seen on the bus: of a write transfer each pair once, of the others none.
-use Rattle.std.specs.Prelude.{ℕ, ◌%◌, ◌<◌, ◌≤◌, ◌≡◌, Bool, length, drop}
+use Rattle.std.specs.Prelude.{ℕ, ◌%◌, ◌<◌, ◌≤◌, ◌≡◌, Bool, length, drop, Option, Some, None}
 use Rattle.std.proofs.Math.Path.{refl, sym, ap}
 use Rattle.std.proofs.Common.{◌∙◌}
 use Rattle.std.proofs.Math.Bool.{true, false}
@@ -15,7 +15,6 @@ use Rattle.i2c.specs.Engine as E
 use Rattle.i2c.specs.Transfers.{byte_frame, address_frame, broken, starts, Pair, Bytes, write_transfer, Levels8, read_transfer, combined}
 use Rattle.i2c.specs.Target.{Target, target, deed, Seen}
 use Rattle.i2c.specs.Answers.{silence, silent, frees, broken_answer, register_answer, pairs_answer, write_answer, next_register, bytes_answer}
-use Rattle.spi.specs.declared.types.Write.{Write}
 use Rattle.calls.specs.declared.types.Timed.{Timed}
 use Rattle.calls.specs.declared.types.Call.{Call}
 use Rattle.sensor.specs.declared.types.Sensor.{Sensor}
@@ -55,12 +54,12 @@ module _ (s : Sensor) (h : Heard s) where
       let heard_write : i2c_write m e ≡ action_write (deed (target_of m) e) = rw (listens g, not_quiet g) in
       heard_write ∙ ap (λ (v : Target). action_write (deed v e)) (same_target same)
 
-  rise_write : (mosi : Bool) (now : Time) → spi_write (at_rise s now) mosi ≡ Write.Nothing
+  rise_write : (mosi : Bool) (now : Time) → spi_write (at_rise s now) mosi ≡ None
   unfolding spi_write spi_listens
   rise_write mosi now =
       let g = heard (and_then (of (K.sync_keeps s now false)) (of (K.rise_synced_keeps (sync_local_until s now false) now))) h in rw g.unselected
 
-  none : Write.Nothing ≡ action_write (deed (target_of s) Still)
+  none : None ≡ action_write (deed (target_of s) Still)
   unfolding action_write
   none = ap action_write (sym (still_deed (target_of s)))
 
@@ -84,15 +83,15 @@ module _ (s : Sensor) (h : Heard s) where
 
 -- ---- lists
 
-at_event_writes : (e : Edge) (a : Seen) (l : List Seen) → (e ≡ Still → action_write a.deed ≡ Write.Nothing) → seen_writes (at_event e a l) ≡ and_write (action_write a.deed) (seen_writes l)
+at_event_writes : (e : Edge) (a : Seen) (l : List Seen) → (e ≡ Still → action_write a.deed ≡ None) → seen_writes (at_event e a l) ≡ and_write (action_write a.deed) (seen_writes l)
 unfolding at_event seen_writes and_write
-at_event_writes Still a l h = ap (λ (w : Write). and_write w (seen_writes l)) (sym (h refl))
+at_event_writes Still a l h = ap (λ (w : Option (ℕ × ℕ)). and_write w (seen_writes l)) (sym (h refl))
 at_event_writes Start a l h = refl
 at_event_writes Stop a l h = refl
 at_event_writes (Rise d) a l h = refl
 at_event_writes Fall a l h = refl
 
-still_write : (s : Sensor) (e : Edge) → e ≡ Still → action_write (deed (target_of s) e) ≡ Write.Nothing
+still_write : (s : Sensor) (e : Edge) → e ≡ Still → action_write (deed (target_of s) e) ≡ None
 unfolding action_write
 still_write s e q = ap (λ (x : Edge). action_write (deed (target_of s) x)) q ∙ ap action_write (still_deed (target_of s))
 
@@ -101,8 +100,8 @@ module _ (s : Bma150) (c : Call) (cs : List Call) (h : Heard s.sensor) (rest : a
   unfolding asked seen_of
   either_way true e =
       rw e
-      (ap (λ (w : Write). and_write w (asked (step s c) cs)) (call_asks s.sensor h c)
-      ∙ ap (λ (l : List Write). and_write (action_write (deed (target_of s.sensor) (event c))) l) rest
+      (ap (λ (w : Option (ℕ × ℕ)). and_write w (asked (step s c) cs)) (call_asks s.sensor h c)
+      ∙ ap (λ (l : List (Option (ℕ × ℕ))). and_write (action_write (deed (target_of s.sensor) (event c))) l) rest
       ∙ sym (at_event_writes (event c) (sees s c) (seen_of (step s c) cs) (still_write s.sensor (event c))))
   either_way false e = rw e rest
 
@@ -116,7 +115,7 @@ asked_are_seen (c ∷ cs) s h n = either_way s c cs h (asked_are_seen cs (step s
 pairs_written : (ps : List Pair) (m : List Seen) → seen_writes m ≡ [] → seen_writes (pairs_answer ps ++ m) ≡ pair_writes ps
 unfolding pairs_answer seen_writes and_write action_write pair_writes
 pairs_written [] m h = h
-pairs_written (p ∷ ps) m h = ap (λ (ws : List Write). Write.Register (p.register % 128) p.value ∷ ws) (pairs_written ps m h)
+pairs_written (p ∷ ps) m h = ap (λ (ws : List (Option (ℕ × ℕ))). Some (p.register % 128, p.value) ∷ ws) (pairs_written ps m h)
 
 bytes_silent : (os : List Levels8) (p : ℕ) (fs : List (ℕ → ℕ)) (m : List Seen) → seen_writes (bytes_answer p os fs ++ m) ≡ seen_writes m
 unfolding bytes_answer seen_writes and_write action_write

@@ -1,5 +1,6 @@
 -- Every sensor of a run that is not selected has its SPI frame at rest, so that hearing the bus asks for no more than supply, live pins, no select and no quiet.
-use Rattle.std.specs.Prelude.{ℕ, ◌≡◌, Bool, true, false, cond, not, ◌&&◌, List, [], ◌∷◌, ltb, eqb}
+use Rattle.sensor.specs.Operation.{Operation}
+use Rattle.std.specs.Prelude.{ℕ, ◌≡◌, Bool, true, false, cond, not, ◌&&◌, List, [], ◌∷◌, ltb, eqb, Option, Some, None}
 use Rattle.std.proofs.Math.Path.{refl}
 use Rattle.std.proofs.Common.{sym, ap, subst, ◌∙◌}
 use Rattle.laws.specs.Bytes.{shifted_in}
@@ -14,22 +15,16 @@ use Rattle.i2c.specs.Bus.{edge}
 use Rattle.i2c.specs.Engine as IE
 use Rattle.spi.specs.declared.types.Serial.{Serial}
 use Rattle.spi.specs.declared.types.Serial.TheVariants as S
-use Rattle.spi.specs.declared.types.Sent.{Sent}
 use Rattle.spi.specs.declared.types.Frame.{Frame}
-use Rattle.spi.specs.declared.types.Write.{Write}
-use Rattle.spi.specs.declared.types.Write.TheVariants as W
 use Rattle.spi.specs.declared.types.Clocked.{Clocked}
 use Rattle.spi.specs.declared.types.Shift.{Shift}
 use Rattle.spi.specs.declared.types.Shift.TheVariants as H
 use Rattle.spi.specs.Frame as F
 use Rattle.spi.specs.Lines.{output}
-use Rattle.deadlines.specs.declared.Deadline.TheVariants.{Never}
 use Rattle.control.specs.declared.types.WriteKind.{WriteKind}
 use Rattle.calls.specs.declared.types.Timed.{Timed}
 use Rattle.calls.specs.declared.types.Call.{Call}
 use Rattle.calls.specs.Table.{unless_refused}
-use Rattle.sensor.specs.declared.types.Operation.{Operation}
-use Rattle.sensor.specs.declared.types.View.{View}
 use Rattle.sensor.specs.declared.types.Sensor.{Sensor}
 use Rattle.sensor.specs.Record.{with_frame, with_i2c, is_off, serial_not_ready, is_quiet, four_wire}
 use Rattle.sensor.specs.Mode.{criterion, soft_reset}
@@ -83,13 +78,13 @@ fresh_rests selected = record { rests = λ e. refl }
 
 -- ---- the output moves
 
-shifted_alike : (s : Serial) (f : Frame) (tx : Sent) → Alike f (F.moved s f tx)
+shifted_alike : (s : Serial) (f : Frame) (tx : Option ℕ) → Alike f (F.moved s f tx)
 unfolding F.moved
 shifted_alike S.Address f tx = record { selected = refl; serial = refl }
 shifted_alike (S.Read a) f tx = record { selected = refl; serial = refl }
 shifted_alike (S.Write a) f tx = record { selected = refl; serial = refl }
 
-output_alike : (shows : ℕ → Sent) (f : Frame) (sh : Shift) → Alike f (output shows f sh)
+output_alike : (shows : ℕ → Option ℕ) (f : Frame) (sh : Shift) → Alike f (output shows f sh)
 unfolding output
 output_alike shows f H.Stay = record { selected = refl; serial = refl }
 output_alike shows f (H.Fetch a) = shifted_alike f.serial f (shows a)
@@ -133,10 +128,10 @@ unfolding F.take_bit
 taken_selected f mosi w true e = rw e
 taken_selected f mosi w false e = rw e (completed_selected f.serial f (shifted_in f.rx mosi) w)
 
-done_selected : (w : Write) (q : Sensor) (now : Time) → (E.write_done w q now).frame.selected ≡ q.frame.selected
+done_selected : (w : Option (ℕ × ℕ)) (q : Sensor) (now : Time) → (E.write_done w q now).frame.selected ≡ q.frame.selected
 unfolding E.write_done
-done_selected W.Nothing q now = refl
-done_selected (W.Register r v) q now = (written_alike q r v now (write_kind q r v)).selected
+done_selected None q now = refl
+done_selected (Some (r, v)) q now = (written_alike q r v now (write_kind q r v)).selected
 
 bit_selected : (m : Sensor) (mosi : Bool) (now : Time) → (E.bit_taken m mosi now).frame.selected ≡ m.frame.selected
 bit_selected m mosi now =
@@ -178,10 +173,10 @@ fall_alike m = by (not (serial_not_ready m) && not (is_off m))
 
 -- ---- I2C reports
 
-launched_alike : (v : View) (s : Sensor) (r : ℕ) → Alike s.frame (launched (fetched v s r)).frame
+launched_alike : (v : Option ℕ) (s : Sensor) (r : ℕ) → Alike s.frame (launched (fetched v s r)).frame
 unfolding fetched
-launched_alike View.Withheld s r = record { selected = refl; serial = refl }
-launched_alike (View.Byte b) s r = record { selected = refl; serial = refl }
+launched_alike None s r = record { selected = refl; serial = refl }
+launched_alike (Some b) s r = record { selected = refl; serial = refl }
 
 acted_alike : (a : Action) (s : Sensor) (now : Time) → Alike s.frame (acted a s now).frame
 unfolding acted
@@ -211,8 +206,8 @@ selected_to_rests s on h = by (F.changes s.frame on)
 
 cut_alike : (o : Operation) (s : Sensor) (now : Time) → Alike s.frame (cut o s now).sensor.frame
 unfolding cut
-cut_alike Operation.Idle s now = record { selected = refl; serial = refl }
-cut_alike (Operation.Running w a v) s now = record { selected = refl; serial = refl }
+cut_alike None s now = record { selected = refl; serial = refl }
+cut_alike (Some (w, a, v)) s now = record { selected = refl; serial = refl }
 
 low_rests : (s : Sensor) (zero : Bool) (now : Time) → Rested s.frame → Rested (supply_low s zero now).sensor.frame
 unfolding supply_low zero_while_off
@@ -221,7 +216,7 @@ low_rests s zero now h = by (is_off s) zero
     by : (b z : Bool) → Rested (cond b (without_report (zero_while_off s z)) (power_off s now z)).sensor.frame
     by true true = h
     by true false = h
-    by false z = selected_to_rests (cut s.writing.operation (held s now) now).sensor _ (rested (cut_alike s.writing.operation (held s now) now) h)
+    by false z = selected_to_rests (cut s.writing (held s now) now).sensor _ (rested (cut_alike s.writing (held s now) now) h)
 
 returned_rests : (s : Sensor) (now : Time) → Rested s.frame → Rested (returned s now).frame
 unfolding returned
@@ -242,8 +237,8 @@ supply_rests s rail now h = by (ltb rail 2400) (is_off s)
 
 over_alike : (o : Operation) (s : Sensor) (now : Time) → Alike s.frame (write_ended o s now).sensor.frame
 unfolding write_ended
-over_alike Operation.Idle s now = record { selected = refl; serial = refl }
-over_alike (Operation.Running w a v) s now = by (same (Cycle.deadline w) now)
+over_alike None s now = record { selected = refl; serial = refl }
+over_alike (Some (w, a, v)) s now = by (same (Cycle.deadline w) now)
   where
     by : (b : Bool) → Alike s.frame (cond b (completed s a v) (without_report s)).sensor.frame
     by true = record { selected = refl; serial = refl }
@@ -253,7 +248,7 @@ due_alike : (s : Sensor) (now : Time) → Alike s.frame (at_deadline s now).sens
 due_alike s now =
     let p = pause_ended (waits_ended s now) now in
     and_alike (kept (K.pause_ended_keeps (waits_ended s now) now))
-    (and_alike (over_alike p.writing.operation p now) (kept (K.scalars_keeps (write_ended p.writing.operation p now).sensor now (criterion s) (hold_ends_now s now))))
+    (and_alike (over_alike p.writing p now) (kept (K.scalars_keeps (write_ended p.writing p now).sensor now (criterion s) (hold_ends_now s now))))
 
 -- ---- every call, every list
 
@@ -296,7 +291,7 @@ start_rests b n = by (eqb n 0)
 
 -- so every sensor of a run hears the I2C bus if it has supply, its pins are not dead, SPI is not selected and it is not quiet
 pub hears : (b : L.Start) (cs : List Call) → let s = (after (L.started b) cs).sensor in
-    is_off s ≡ false → s.deadlines.serial_ready ≡ Never → s.frame.selected ≡ false → s.deadlines.quiet ≡ Never → Heard s
+    is_off s ≡ false → s.deadlines.serial_ready ≡ None → s.frame.selected ≡ false → s.deadlines.quiet ≡ None → Heard s
 unfolding after_start
 hears b cs on ready unselected loud =
     record { on = on; ready = ready; unselected = unselected; at_rest = (list_rests cs (L.started b) (start_rests b (start_number b.by b.time b.image))).rests unselected; loud = loud }

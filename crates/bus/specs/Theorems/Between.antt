@@ -1,15 +1,13 @@
 -- What calls other than reports leave of the bus, for a sensor that hears it before and after.
-use Rattle.std.specs.Prelude.{ℕ, ◌≡◌, refl, Bool, true, false, cond, not, ◌&&◌, ltb, ℤ}
+use Rattle.sensor.specs.Operation.{Operation}
+use Rattle.std.specs.Prelude.{ℕ, ◌≡◌, refl, Bool, true, false, cond, not, ◌&&◌, ltb, ℤ, Option, Some, None}
 use Rattle.time.specs.declared.Time.{Time}
 use Rattle.time.specs.Time.{same}
 use Rattle.nv.specs.Cycle as Cycle
 use Rattle.spi.specs.declared.types.Clocked.TheVariants as Clocked
 use Rattle.spi.specs.declared.types.Serial.TheVariants as Serial
 use Rattle.spi.specs.Frame as F
-use Rattle.deadlines.specs.declared.Deadline.{Deadline}
-use Rattle.deadlines.specs.declared.Deadline.TheVariants.{Never}
 use Rattle.deadlines.specs.Deadlines.{is_set, is_at, unless_at}
-use Rattle.sensor.specs.declared.types.Operation.{Operation}
 use Rattle.sensor.specs.declared.types.Sensor.{Sensor}
 use Rattle.sensor.specs.Record.{is_off, serial_not_ready, four_wire}
 use Rattle.sensor.specs.Mode.{criterion}
@@ -34,33 +32,33 @@ module _ (s : Sensor) (rail : ℕ) (now : Time) (h : Heard s) where
 
 -- ---- due moments
 
-never_ends : (d : Deadline) (now : Time) → d ≡ Never → unless_at d now ≡ d
+never_ends : (d : Option Time) (now : Time) → d ≡ None → unless_at d now ≡ d
 unfolding unless_at is_at
 never_ends d now e = rw e
 
-ended_parts : (s : Sensor) (a b c d : Deadline) → a ≡ b → c ≡ d
+ended_parts : (s : Sensor) (a b c d : Option Time) → a ≡ b → c ≡ d
     → ◌≡◌ {A = Parts} (record { i2c = s.i2c; frame = F.released s.frame; supply = s.supply; serial_ready = a; quiet = c }) (record { i2c = s.i2c; frame = F.released s.frame; supply = s.supply; serial_ready = b; quiet = d })
 ended_parts s a b c d e g = rw (e, g)
 
-waits_same : (s : Sensor) (now : Time) → s.deadlines.serial_ready ≡ Never → s.deadlines.quiet ≡ Never → Same s (waits_ended s now)
+waits_same : (s : Sensor) (now : Time) → s.deadlines.serial_ready ≡ None → s.deadlines.quiet ≡ None → Same s (waits_ended s now)
 waits_same s now ready loud = record { same = ended_parts s _ _ _ _ (never_ends s.deadlines.serial_ready now ready) (never_ends s.deadlines.quiet now loud) }
 
 write_same : (o : Operation) (s : Sensor) (now : Time) → Same s (write_ended o s now).sensor
 unfolding write_ended
-write_same Operation.Idle s now = itself s
-write_same (Operation.Running w a v) s now = by_test (same (Cycle.deadline w) now) refl
+write_same None s now = itself s
+write_same (Some (w, a, v)) s now = by_test (same (Cycle.deadline w) now) refl
   where
-    by_test : (t : Bool) → same (Cycle.deadline w) now ≡ t → Same s (write_ended (Operation.Running w a v) s now).sensor
+    by_test : (t : Bool) → same (Cycle.deadline w) now ≡ t → Same s (write_ended (Some (w, a, v)) s now).sensor
     by_test true e = record { same = rw e }
     by_test false e = record { same = rw e }
 
-pub due_same : (s : Sensor) (now : Time) → s.deadlines.serial_ready ≡ Never → s.deadlines.quiet ≡ Never → Same s (at_deadline s now).sensor
+pub due_same : (s : Sensor) (now : Time) → s.deadlines.serial_ready ≡ None → s.deadlines.quiet ≡ None → Same s (at_deadline s now).sensor
 due_same s now ready loud =
     let p = pause_ended (waits_ended s now) now in
-    let w = (write_ended p.writing.operation p now).sensor in
+    let w = (write_ended p.writing p now).sensor in
     and_then (waits_same s now ready loud)
     (and_then (of (K.pause_ended_keeps (waits_ended s now) now))
-    (and_then (write_same p.writing.operation p now) (of (K.scalars_keeps w now (criterion s) (hold_ends_now s now)))))
+    (and_then (write_same p.writing p now) (of (K.scalars_keeps w now (criterion s) (hold_ends_now s now)))))
 
 -- ---- SPI edges while SPI is not selected
 

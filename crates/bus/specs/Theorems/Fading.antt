@@ -1,5 +1,5 @@
 -- A frame whose driver was released on the way: it goes on like the other, and its driver is the same or released.
-use Rattle.std.specs.Prelude.{ℕ, ◌≡◌, Bool, cond, ◌&&◌, ltb}
+use Rattle.std.specs.Prelude.{ℕ, ◌≡◌, Bool, cond, ◌&&◌, ltb, Option, None}
 use Rattle.std.proofs.Math.Path.{refl, ap}
 use Rattle.std.proofs.Common.{sym, ◌∙◌}
 use Rattle.std.proofs.Math.Bool.{true, false}
@@ -8,10 +8,8 @@ use Rattle.spi.specs.declared.types.Serial.{Serial}
 use Rattle.spi.specs.declared.types.Serial.TheVariants as S
 use Rattle.spi.specs.declared.types.Drive.{Drive}
 use Rattle.spi.specs.declared.types.Drive.TheVariants as D
-use Rattle.spi.specs.declared.types.Sent.{Sent}
 use Rattle.spi.specs.declared.types.Frame.{Frame}
 use Rattle.spi.specs.declared.types.Taken.{Taken}
-use Rattle.spi.specs.declared.types.Write.TheVariants as W
 use Rattle.spi.specs.declared.types.Shift.{Shift}
 use Rattle.spi.specs.declared.types.Shift.TheVariants as H
 use Rattle.spi.specs.Frame.{addressed, completed, take_bit, shifts, turned, moved}
@@ -58,8 +56,8 @@ floating_exact {P} {f} {g} p e = p.is ∙ by p.stays
 
 -- ---- the output moves alike
 
-module _ (shows : ℕ → Sent) (f : Frame) (b : Bool) where
-  moved_fading : (s : Serial) (tx : Sent) → moved s (fading b f) tx ≡ moved s f tx
+module _ (shows : ℕ → Option ℕ) (f : Frame) (b : Bool) where
+  moved_fading : (s : Serial) (tx : Option ℕ) → moved s (fading b f) tx ≡ moved s f tx
   unfolding moved
   moved_fading S.Address tx = refl
   moved_fading (S.Read a) tx = refl
@@ -84,7 +82,7 @@ module _ (f : Frame) (b : Bool) where
 
   completed_fading : (s : Serial) (byte : ℕ) (w : Bool) → completed s (fading b f) byte w ≡ alike (completed s f byte w)
   unfolding completed
-  completed_fading S.Address byte w = ap (λ (g : Frame). record { frame = g; write = W.Nothing }) (addressed_fading byte w (ltb byte 128) refl)
+  completed_fading S.Address byte w = ap (λ (g : Frame). record { frame = g; write = None }) (addressed_fading byte w (ltb byte 128) refl)
   completed_fading (S.Read a) byte w = refl
   completed_fading (S.Write a) byte w = refl
 
@@ -137,7 +135,7 @@ serve_faded n f g e p =
     let o = event_fading n f p.stays e in
     record { stays = o.0; is = ap (λ (x : Frame). serve n x e) p.is ∙ o.1; exact = λ x. ap (λ (y : Frame). serve n y e) (p.exact x) }
 
-pub output_faded : {P : Type 0} (shows : ℕ → Sent) (f g : Frame) (sh : Shift) → Faded P f g → Faded P (output shows f sh) (output shows g sh)
+pub output_faded : {P : Type 0} (shows : ℕ → Option ℕ) (f g : Frame) (sh : Shift) → Faded P f g → Faded P (output shows f sh) (output shows g sh)
 output_faded shows f g sh p =
     let o = output_fading shows f p.stays sh in
     record { stays = o.0; is = ap (λ (x : Frame). output shows x sh) p.is ∙ o.1; exact = λ x. ap (λ (y : Frame). output shows y sh) (p.exact x) }

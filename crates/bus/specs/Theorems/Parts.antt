@@ -1,11 +1,10 @@
 -- What the bus sees of a sensor that hears it, and what leaves that as it is.
-use Rattle.std.specs.Prelude.{ℕ, ◌≡◌, refl, Bool, true, false, cond}
+use Rattle.time.specs.declared.Time.{Time}
+use Rattle.std.specs.Prelude.{ℕ, ◌≡◌, refl, Bool, true, false, cond, Option, None}
 use Rattle.std.proofs.Common.{arith, ap, ◌∙◌}
 use Rattle.i2c.specs.declared.types.State.{State}
 use Rattle.spi.specs.declared.types.Frame.{Frame}
 use Rattle.spi.specs.Frame as F
-use Rattle.deadlines.specs.declared.Deadline.{Deadline}
-use Rattle.deadlines.specs.declared.Deadline.TheVariants.{Never}
 use Rattle.deadlines.specs.Deadlines.{is_set}
 use Rattle.sensor.specs.declared.types.Supply.{Supply}
 use Rattle.sensor.specs.declared.types.Sensor.{Sensor}
@@ -25,8 +24,8 @@ pub record Parts : Type 0 where
   pub i2c : State
   pub frame : Frame
   pub supply : Supply
-  pub serial_ready : Deadline
-  pub quiet : Deadline
+  pub serial_ready : Option Time
+  pub quiet : Option Time
 
 abbrev pub parts : Sensor → Parts
 parts s = record { i2c = s.i2c; frame = F.released s.frame; supply = s.supply; serial_ready = s.deadlines.serial_ready; quiet = s.deadlines.quiet }
@@ -64,7 +63,7 @@ same_target p = ap (λ (k : Parts). target k.i2c (ones_for k.frame.tx)) p.same
 
 -- ---- it listens, is not quiet, and holds the pin low where its engine does
 
-pub is_never : (d : Deadline) → d ≡ Never → is_set d ≡ false
+pub is_never : (d : Option Time) → d ≡ None → is_set d ≡ false
 unfolding is_set
 is_never d e = rw e
 

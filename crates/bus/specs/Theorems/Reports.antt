@@ -1,5 +1,5 @@
 -- What an I2C report does to a sensor that hears the bus.
-use Rattle.std.specs.Prelude.{ℕ, ◌≡◌, Bool, true, false, cond, not, ◌&&◌, if◌then◌else◌}
+use Rattle.std.specs.Prelude.{ℕ, ◌≡◌, Bool, true, false, cond, not, ◌&&◌, if◌then◌else◌, Option, Some, None}
 use Rattle.std.proofs.Math.Path.{refl, ap}
 use Rattle.std.proofs.Common.{sym, ◌∙◌}
 use Rattle.time.specs.declared.Time.{Time}
@@ -12,7 +12,6 @@ use Rattle.i2c.specs.Target.{target, act, deed}
 use Rattle.i2c.proofs.Theorems.Uses.{uses, uses_exactly}
 use Rattle.deadlines.specs.Deadlines.{is_set}
 use Rattle.control.specs.declared.types.WriteKind.{WriteKind}
-use Rattle.sensor.specs.declared.types.View.{View}
 use Rattle.sensor.specs.declared.types.Sensor.{Sensor}
 use Rattle.sensor.specs.Record.{with_i2c, is_quiet}
 use Rattle.sensor.specs.Mode.{soft_reset, criterion}
@@ -74,15 +73,15 @@ module _ (q : Sensor) (r v : ℕ) (now : Time) where
 
 module _ (s : Sensor) (st : State) where
   -- the engine's state changes nothing that a fetch looks at
-  same_sent : (v : View) (r : ℕ) → (fetched v (with_i2c s st) r).sent ≡ (fetched v s r).sent
+  same_sent : (v : Option ℕ) (r : ℕ) → (fetched v (with_i2c s st) r).sent ≡ (fetched v s r).sent
   unfolding fetched
-  same_sent View.Withheld r = refl
-  same_sent (View.Byte b) r = refl
+  same_sent None r = refl
+  same_sent (Some b) r = refl
 
-  launched_target : (v : View) (r : ℕ) → target_of (launched (fetched v (with_i2c s st) r)) ≡ target (E.launched st (ones_for (fetched v s r).sent)) (ones_for (fetched v s r).sent)
+  launched_target : (v : Option ℕ) (r : ℕ) → target_of (launched (fetched v (with_i2c s st) r)) ≡ target (E.launched st (ones_for (fetched v s r).sent)) (ones_for (fetched v s r).sent)
   unfolding fetched
-  launched_target View.Withheld r = refl
-  launched_target (View.Byte b) r = refl
+  launched_target None r = refl
+  launched_target (Some b) r = refl
 
   same_view : (r : ℕ) → peek (with_i2c s st) r ≡ peek s r
   unfolding peek shown
@@ -100,7 +99,7 @@ acted_target (A.Write r v) s st now h g =
     ap (λ (k : Parts). target (E.written k.i2c (is_set k.quiet)) (ones_for k.frame.tx)) same.same
     ∙ ap (λ (z : Bool). target (E.written st z) (ones_for s.frame.tx)) (not_quiet h)
 acted_target (A.Launch r) s st now h g =
-    ap (λ (v : View). target_of (launched (fetched v (with_i2c s st) r))) (same_view s st r) ∙ launched_target s st (peek s r) r
+    ap (λ (v : Option ℕ). target_of (launched (fetched v (with_i2c s st) r))) (same_view s st r) ∙ launched_target s st (peek s r) r
 acted_target (A.ReadBegan r) s st now h g = same_target (of (K.byte_read_keeps s.frame.tx (with_i2c s st) r))
 
 -- and the sensor goes on hearing
@@ -108,10 +107,10 @@ module _ (s : Sensor) (st : State) (now : Time) (h : Heard s) where
   abbrev q : Sensor
   q = with_i2c s st
 
-  launched_heard : (v : View) (r : ℕ) → Heard (launched (fetched v q r))
+  launched_heard : (v : Option ℕ) (r : ℕ) → Heard (launched (fetched v q r))
   unfolding fetched
-  launched_heard View.Withheld r = record { on = h.on; ready = h.ready; unselected = h.unselected; at_rest = h.at_rest; loud = h.loud }
-  launched_heard (View.Byte b) r = record { on = h.on; ready = h.ready; unselected = h.unselected; at_rest = h.at_rest; loud = h.loud }
+  launched_heard None r = record { on = h.on; ready = h.ready; unselected = h.unselected; at_rest = h.at_rest; loud = h.loud }
+  launched_heard (Some b) r = record { on = h.on; ready = h.ready; unselected = h.unselected; at_rest = h.at_rest; loud = h.loud }
 
   pub acted_heard : (a : Action) → resets s a ≡ false → Heard (acted a q now)
   unfolding acted resets

@@ -1,19 +1,14 @@
 -- The writes that a list of calls makes on a selected sensor are those seen at its edges.
-use Rattle.std.specs.Prelude.{◌≡◌, Bool, ltb}
+use Rattle.std.specs.Prelude.{◌≡◌, Bool, ltb, Option, Some, None, ℕ}
 use Rattle.std.proofs.Math.Path.{refl, sym, ap}
 use Rattle.std.proofs.Common.{◌∙◌}
 use Rattle.std.proofs.Math.Bool.{true, false}
 use mathlib.Core.List.{List, [], ◌∷◌, ◌++◌}
-use Rattle.std.proofs.Math.Option.{Option, none, some}
 use Rattle.time.specs.declared.Time.{Time}
 use Rattle.i2c.specs.declared.types.Edge.{Edge}
 use Rattle.i2c.specs.Bus.{edge}
 use Rattle.spi.specs.declared.types.Frame.{Frame}
-use Rattle.spi.specs.declared.types.FirstBit.{FirstBit}
-use Rattle.spi.specs.declared.types.FirstBit.TheVariants as K
 use Rattle.spi.specs.declared.types.Taken.{Taken}
-use Rattle.spi.specs.declared.types.Write.{Write}
-use Rattle.spi.specs.declared.types.Write.TheVariants as W
 use Rattle.spi.specs.declared.types.Shift.{Shift}
 use Rattle.spi.specs.declared.types.Shift.TheVariants as H
 use Rattle.spi.specs.Frame as F
@@ -42,23 +37,23 @@ use Rattle.bus.specs.Theorems.SpiTransfers.{write_frames_through_calls}
 
 -- ---- the write among what an edge does
 
-fetch_writes : (sh : Shift) (ws : List Write) → deed_writes (fetched sh) ws ≡ ws
+fetch_writes : (sh : Shift) (ws : List (Option (ℕ × ℕ))) → deed_writes (fetched sh) ws ≡ ws
 unfolding deed_writes fetched
 fetch_writes H.Stay ws = refl
 fetch_writes (H.Fetch a) ws = refl
 fetch_writes H.Next ws = refl
 
-wrote_writes : (w : Write) (sh : Shift) (ws : List Write) → deed_writes (wrote w ++ fetched sh) ws ≡ and_write w ws
+wrote_writes : (w : Option (ℕ × ℕ)) (sh : Shift) (ws : List (Option (ℕ × ℕ))) → deed_writes (wrote w ++ fetched sh) ws ≡ and_write w ws
 unfolding deed_writes wrote and_write
-wrote_writes W.Nothing sh ws = fetch_writes sh ws
-wrote_writes (W.Register a v) sh ws = ap (λ (l : List Write). W.Register a v ∷ l) (fetch_writes sh ws)
+wrote_writes None sh ws = fetch_writes sh ws
+wrote_writes (Some (a, v)) sh ws = ap (λ (l : List (Option (ℕ × ℕ))). Some (a, v) ∷ l) (fetch_writes sh ws)
 
-bit_writes : (k : FirstBit) (w : Write) (sh : Shift) (ws : List Write) → deed_writes (noted k ++ (wrote w ++ fetched sh)) ws ≡ and_write w ws
+bit_writes : (k : Option ℕ) (w : Option (ℕ × ℕ)) (sh : Shift) (ws : List (Option (ℕ × ℕ))) → deed_writes (noted k ++ (wrote w ++ fetched sh)) ws ≡ and_write w ws
 unfolding deed_writes noted
-bit_writes K.Nothing w sh ws = wrote_writes w sh ws
-bit_writes (K.Register a) w sh ws = wrote_writes w sh ws
+bit_writes None w sh ws = wrote_writes w sh ws
+bit_writes (Some a) w sh ws = wrote_writes w sh ws
 
-module _ (n : Now) (f : Frame) (mosi : Bool) (ws : List Write) where
+module _ (n : Now) (f : Frame) (mosi : Bool) (ws : List (Option (ℕ × ℕ))) where
   turn_deeds : f.turnaround ≡ true → deed_writes (deeds n f (Rise mosi)) ws ≡ ws
   unfolding deeds
   turn_deeds e = rw e (fetch_writes (turnaround_shift n f) ws)
@@ -72,7 +67,7 @@ module _ (n : Now) (f : Frame) (mosi : Bool) (ws : List Write) where
 
 -- ---- one call
 
-module _ (s : Sensor) (h : Chosen s) (now : Time) (n : Now) (mosi : Bool) (ws : List Write) where
+module _ (s : Sensor) (h : Chosen s) (now : Time) (n : Now) (mosi : Bool) (ws : List (Option (ℕ × ℕ))) where
   abbrev m : Sensor
   m = at_rise s now
 
@@ -94,7 +89,7 @@ module _ (s : Sensor) (h : Chosen s) (now : Time) (n : Now) (mosi : Bool) (ws : 
 
   turned : s.frame.turnaround ≡ true → and_write (spi_write m mosi) ws ≡ deed_writes (deeds n s.frame (Rise mosi)) ws
   unfolding and_write
-  turned e = ap (λ (w : Write). and_write w ws) (turn_write m (chosen met h) mosi (turns ∙ e)) ∙ sym (turn_deeds n s.frame mosi ws e)
+  turned e = ap (λ (w : Option (ℕ × ℕ)). and_write w ws) (turn_write m (chosen met h) mosi (turns ∙ e)) ∙ sym (turn_deeds n s.frame mosi ws e)
 
   rise_asks : and_write (spi_write m mosi) ws ≡ deed_writes (deeds n s.frame (Rise mosi)) ws
   rise_asks = by s.frame.turnaround refl
@@ -102,15 +97,15 @@ module _ (s : Sensor) (h : Chosen s) (now : Time) (n : Now) (mosi : Bool) (ws : 
       by : (b : Bool) → s.frame.turnaround ≡ b → and_write (spi_write m mosi) ws ≡ deed_writes (deeds n s.frame (Rise mosi)) ws
       by true e = turned e
       by false e =
-          ap (λ (w : Write). and_write w ws) (rise_write m (chosen met h) mosi (turns ∙ e) ∙ alike) ∙ sym (bit_deeds_write n s.frame mosi ws e)
+          ap (λ (w : Option (ℕ × ℕ)). and_write w ws) (rise_write m (chosen met h) mosi (turns ∙ e) ∙ alike) ∙ sym (bit_deeds_write n s.frame mosi ws e)
 
 -- the writes of what is seen at an edge, if there is one
-unfoldable pub some_writes : Bma150 → Call → Option Event → List Write → List Write
-some_writes s c none ws = ws
-some_writes s c (some e) ws = deed_writes (deeds (now_of s c) s.sensor.frame e) ws
+unfoldable pub some_writes : Bma150 → Call → Option Event → List (Option (ℕ × ℕ)) → List (Option (ℕ × ℕ))
+some_writes s c None ws = ws
+some_writes s c (Some e) ws = deed_writes (deeds (now_of s c) s.sensor.frame e) ws
 
-module _ (s : Bma150) (h : Chosen s.sensor) (ws : List Write) where
-  pins_write : (e : Edge) (now : Time) → i2c_write (at_pins s.sensor e now) e ≡ W.Nothing
+module _ (s : Bma150) (h : Chosen s.sensor) (ws : List (Option (ℕ × ℕ))) where
+  pins_write : (e : Edge) (now : Time) → i2c_write (at_pins s.sensor e now) e ≡ None
   unfolding i2c_write i2c_listens
   pins_write e now =
       let g = chosen (and_then (of (KK.sync_keeps s.sensor now false)) (of (KK.pins_synced_keeps (sync_local_until s.sensor now false) e now))) h in rw g.selected
@@ -122,7 +117,7 @@ module _ (s : Bma150) (h : Chosen s.sensor) (ws : List Write) where
   timed_asks now Timed.Due = refl
   timed_asks now (Timed.Rising mosi) = rise_asks s.sensor h now (now_of s (Call.At now (Timed.Rising mosi))) mosi ws
   timed_asks now Timed.Falling = sym (fetch_writes (fall_shift (now_of s (Call.At now Timed.Falling)) s.sensor.frame) ws)
-  timed_asks now (Timed.Pins a b) = ap (λ (w : Write). and_write w ws) (pins_write (edge a b) now)
+  timed_asks now (Timed.Pins a b) = ap (λ (w : Option (ℕ × ℕ)). and_write w ws) (pins_write (edge a b) now)
 
   -- the book asks for the write that is seen
   pub call_asks : (c : Call) → and_write ((does c).asks s.sensor).write ws ≡ some_writes s c (edge_of c) ws
@@ -137,8 +132,8 @@ module _ (s : Bma150) (h : Chosen s.sensor) (ws : List Write) where
 
 some_seen : (s : Bma150) (c : Call) (o : Option Event) (l : List Seen) → edge_writes (and_some (seen_edge s c o) l) ≡ some_writes s c o (edge_writes l)
 unfolding edge_writes and_some seen_edge some_writes
-some_seen s c none l = refl
-some_seen s c (some e) l = refl
+some_seen s c None l = refl
+some_seen s c (Some e) l = refl
 
 module _ (s : Bma150) (c : Call) (cs : List Call) (h : Chosen s.sensor) (rest : asked (step s c) cs ≡ edge_writes (seen_edges (step s c) cs)) where
   either_way : (t : Bool) → accepts s c ≡ t → asked s (c ∷ cs) ≡ edge_writes (seen_edges s (c ∷ cs))
@@ -146,7 +141,7 @@ module _ (s : Bma150) (c : Call) (cs : List Call) (h : Chosen s.sensor) (rest : 
   either_way true e =
       rw e
       (call_asks s h (asked (step s c) cs) c
-      ∙ ap (λ (ws : List Write). some_writes s c (edge_of c) ws) rest
+      ∙ ap (λ (ws : List (Option (ℕ × ℕ))). some_writes s c (edge_of c) ws) rest
       ∙ sym (some_seen s c (edge_of c) (seen_edges (step s c) cs)))
   either_way false e = rw e rest
 
@@ -160,7 +155,7 @@ edges_asked (c ∷ cs) s h n = either_way s c cs h (edges_asked cs (step s c) (n
 frames_written : (ps : List Pair) → edge_writes (writes_answer ps) ≡ frame_writes ps
 unfolding writes_answer edge_writes deed_writes frame_writes
 frames_written [] = refl
-frames_written (p ∷ ps) = ap (λ (ws : List Write). W.Register p.register p.value ∷ ws) (frames_written ps)
+frames_written (p ∷ ps) = ap (λ (ws : List (Option (ℕ × ℕ))). Some (p.register, p.value) ∷ ws) (frames_written ps)
 
 module _ (s : Bma150) (cs : List Call) (h : Chosen s.sensor) (n : left_frame s cs ≡ false) (begun : s.sensor.frame ≡ F.fresh true) where
   -- each write frame writes its value once, in order, and nothing else is written

@@ -1,14 +1,11 @@
 -- Every accepted call of a selected sensor that hears SPI, as its frame meets it.
 use Prim.Native.Nat.{ℕ}
-use Rattle.std.specs.Prelude.{◌≡◌, Bool, ◌&&◌, List, ltb}
+use Rattle.std.specs.Prelude.{◌≡◌, Bool, ◌&&◌, List, ltb, Option, Some, None}
 use Rattle.std.proofs.Math.Path.{refl, ap}
 use Rattle.std.proofs.Common.{sym, ◌∙◌}
 use Rattle.std.proofs.Math.Bool.{true, false}
 use Rattle.time.specs.declared.Time.{Time}
-use Rattle.spi.specs.declared.types.Sent.{Sent}
 use Rattle.spi.specs.declared.types.Frame.{Frame}
-use Rattle.spi.specs.declared.types.Write.{Write}
-use Rattle.spi.specs.declared.types.Write.TheVariants as W
 use Rattle.spi.specs.declared.types.Clocked.TheVariants as Clocked
 use Rattle.spi.specs.Frame as F
 use Rattle.spi.specs.Lines.{Rise, Fall, Now, output, bit_served, serve}
@@ -72,14 +69,14 @@ module _ (m : Sensor) (h : Chosen m) (mosi : Bool) where
   unfolding spi_write
   rise_write e = rw (listens h, e)
 
-  pub turn_write : m.frame.turnaround ≡ true → spi_write m mosi ≡ W.Nothing
+  pub turn_write : m.frame.turnaround ≡ true → spi_write m mosi ≡ None
   unfolding spi_write
   turn_write e = rw (listens h, e)
 
-pub resets_framed : (s : Sensor) (f : Frame) (w : Write) → write_resets (with_frame s f) w ≡ write_resets s w
+pub resets_framed : (s : Sensor) (f : Frame) (w : Option (ℕ × ℕ)) → write_resets (with_frame s f) w ≡ write_resets s w
 unfolding write_resets
-resets_framed s f W.Nothing = refl
-resets_framed s f (W.Register r v) = refl
+resets_framed s f None = refl
+resets_framed s f (Some (r, v)) = refl
 
 mode_of : (s t : Sensor) → t.registers ≡ s.registers → four_wire t ≡ four_wire s
 mode_of s t e = ap (λ (l : List ℕ). SPI4 (at l operation)) e
@@ -119,7 +116,7 @@ module _ (P : Type 0) (m : Sensor) (h : Chosen m) (mosi : Bool) (now : Time) (n 
     no_reset : write_resets (q m mosi now) (taken m mosi now).write ≡ false
     no_reset =
         resets_framed (t m mosi now) (taken m mosi now).frame (taken m mosi now).write
-        ∙ ap (λ (w : Write). write_resets (t m mosi now) w) write_is
+        ∙ ap (λ (w : Option (ℕ × ℕ)). write_resets (t m mosi now) w) write_is
         ∙ ap (λ (x : Sensor). write_resets x (spi_write m mosi)) (sym same)
         ∙ gentle
 
@@ -165,7 +162,7 @@ module _ (m : Sensor) (h : Chosen m) where
       ap (λ (y : Sensor). y.frame) falls
       ∙ moved_frame m (F.shifts m.frame Clocked.Fall (four_wire m))
       ∙ ap (λ (z : Bool). output (sends m) m.frame (F.shifts m.frame Clocked.Fall z)) (sym w)
-      ∙ ap (λ (g : ℕ → Sent). output g m.frame (F.shifts m.frame Clocked.Fall n.four_wire)) (sym x)
+      ∙ ap (λ (g : ℕ → Option ℕ). output g m.frame (F.shifts m.frame Clocked.Fall n.four_wire)) (sym x)
 
   pub falling_around : around (E.falling_effect m) ≡ around m
   falling_around = ap (λ (y : Sensor). around y) falls ∙ (moved_rest m (F.shifts m.frame Clocked.Fall (four_wire m))).0

@@ -1,21 +1,18 @@
 -- What an SPI edge does to the frame of a selected sensor that hears SPI.
-use Rattle.std.specs.Prelude.{ℕ, ◌≡◌, Bool, cond, not, ◌&&◌}
+use Rattle.time.specs.declared.Time.{Time}
+use Rattle.std.specs.Prelude.{ℕ, ◌≡◌, Bool, cond, not, ◌&&◌, Option, Some, None}
 use Rattle.std.proofs.Math.Path.{refl}
 use Rattle.std.proofs.Common.{ap, ◌∙◌}
 use Rattle.std.proofs.Math.Bool.{true, false}
 use Rattle.spi.specs.declared.types.Drive.{Drive}
 use Rattle.spi.specs.declared.types.Drive.TheVariants as Dr
-use Rattle.spi.specs.declared.types.Sent.{Sent}
 use Rattle.spi.specs.declared.types.Frame.{Frame}
-use Rattle.spi.specs.declared.types.FirstBit.{FirstBit}
 use Rattle.spi.specs.declared.types.Shift.{Shift}
 use Rattle.spi.specs.declared.types.Shift.TheVariants as H
 use Rattle.spi.specs.Frame as F
 use Rattle.spi.specs.Lines.{output}
-use Rattle.deadlines.specs.declared.Deadline.{Deadline}
 use Rattle.deadlines.specs.Deadlines.{is_set}
 use Rattle.sensor.specs.declared.types.Supply.{Supply}
-use Rattle.sensor.specs.declared.types.View.{View}
 use Rattle.sensor.specs.declared.types.Sensor.{Sensor}
 use Rattle.sensor.specs.Record.{with_frame, is_off, serial_not_ready}
 use Rattle.sensor.specs.RegisterReads.{shown, peek, fetched, counts_as_read, byte_read}
@@ -56,8 +53,8 @@ module _ {s : Sensor} (h : Chosen s) where
 
 pub record Around : Type 0 where
   pub supply : Supply
-  pub serial_ready : Deadline
-  pub quiet : Deadline
+  pub serial_ready : Option Time
+  pub quiet : Option Time
 
 abbrev pub around : Sensor → Around
 around s = record { supply = s.supply; serial_ready = s.deadlines.serial_ready; quiet = s.deadlines.quiet }
@@ -77,10 +74,10 @@ chosen_again p e h =
 -- ---- the output moves
 
 module _ (t : Sensor) where
-  showing_frame : (v : View) (a : ℕ) → (E.showing (fetched v t a)).frame ≡ F.shifted t.frame (fetched v t a).sent
+  showing_frame : (v : Option ℕ) (a : ℕ) → (E.showing (fetched v t a)).frame ≡ F.shifted t.frame (fetched v t a).sent
   unfolding fetched
-  showing_frame View.Withheld a = refl
-  showing_frame (View.Byte b) a = refl
+  showing_frame None a = refl
+  showing_frame (Some b) a = refl
 
   pub moved_frame : (sh : Shift) → (E.moved sh t).frame ≡ output (sends t) t.frame sh
   unfolding E.moved output
@@ -88,10 +85,10 @@ module _ (t : Sensor) where
   moved_frame (H.Fetch a) = showing_frame (peek t a) a
   moved_frame H.Next = refl
 
-  showing_rest : (v : View) (a : ℕ) → (around (E.showing (fetched v t a)) ≡ around t) × ((E.showing (fetched v t a)).registers ≡ t.registers) × ((E.showing (fetched v t a)).sampling ≡ t.sampling)
+  showing_rest : (v : Option ℕ) (a : ℕ) → (around (E.showing (fetched v t a)) ≡ around t) × ((E.showing (fetched v t a)).registers ≡ t.registers) × ((E.showing (fetched v t a)).sampling ≡ t.sampling)
   unfolding fetched
-  showing_rest View.Withheld a = (refl, refl, refl)
-  showing_rest (View.Byte b) a = (refl, refl, refl)
+  showing_rest None a = (refl, refl, refl)
+  showing_rest (Some b) a = (refl, refl, refl)
 
   pub moved_rest : (sh : Shift) → (around (E.moved sh t) ≡ around t) × ((E.moved sh t).registers ≡ t.registers) × ((E.moved sh t).sampling ≡ t.sampling)
   unfolding E.moved
@@ -100,10 +97,10 @@ module _ (t : Sensor) where
   moved_rest H.Next = (refl, refl, refl)
 
   -- a fetch does not look at the frame
-  sent_framed : (f : Frame) (v : View) (a : ℕ) → (fetched v (with_frame t f) a).sent ≡ (fetched v t a).sent
+  sent_framed : (f : Frame) (v : Option ℕ) (a : ℕ) → (fetched v (with_frame t f) a).sent ≡ (fetched v t a).sent
   unfolding fetched
-  sent_framed f View.Withheld a = refl
-  sent_framed f (View.Byte b) a = refl
+  sent_framed f None a = refl
+  sent_framed f (Some b) a = refl
 
   pub sends_framed : (f : Frame) (a : ℕ) → sends (with_frame t f) a ≡ sends t a
   unfolding peek shown
@@ -112,21 +109,21 @@ module _ (t : Sensor) where
 -- ---- a read is noted
 
 module _ (m : Sensor) where
-  byte_read_frame : (x : Sent) (a : ℕ) (b : Bool) → counts_as_read m a ≡ b → (byte_read x m a).frame ≡ m.frame
+  byte_read_frame : (x : Option ℕ) (a : ℕ) (b : Bool) → counts_as_read m a ≡ b → (byte_read x m a).frame ≡ m.frame
   unfolding byte_read
-  byte_read_frame Sent.Nothing a b e = refl
-  byte_read_frame (Sent.Byte y) a true e = rw e
-  byte_read_frame (Sent.Byte y) a false e = rw e
+  byte_read_frame None a b e = refl
+  byte_read_frame (Some y) a true e = rw e
+  byte_read_frame (Some y) a false e = rw e
 
-  pub first_frame : (k : FirstBit) → (E.first_bit_taken k m).frame ≡ m.frame
+  pub first_frame : (k : Option ℕ) → (E.first_bit_taken k m).frame ≡ m.frame
   unfolding E.first_bit_taken
-  first_frame FirstBit.Nothing = refl
-  first_frame (FirstBit.Register a) = byte_read_frame m.frame.tx a (counts_as_read m a) refl
+  first_frame None = refl
+  first_frame (Some a) = byte_read_frame m.frame.tx a (counts_as_read m a) refl
 
-  pub first_same : (k : FirstBit) → Same m (E.first_bit_taken k m)
+  pub first_same : (k : Option ℕ) → Same m (E.first_bit_taken k m)
   unfolding E.first_bit_taken
-  first_same FirstBit.Nothing = itself m
-  first_same (FirstBit.Register a) = of (K.byte_read_keeps m.frame.tx m a)
+  first_same None = itself m
+  first_same (Some a) = of (K.byte_read_keeps m.frame.tx m a)
 
   pub noted_turning : m.frame.turnaround ≡ true → noted m ≡ m
   unfolding noted

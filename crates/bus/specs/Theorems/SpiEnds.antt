@@ -1,10 +1,8 @@
 -- Select 0, a supply below 2400 mV and the write of a soft reset do end hearing SPI.
-use Rattle.std.specs.Prelude.{ℕ, ◌≡◌, refl, Bool, true, false, ltb}
+use Rattle.std.specs.Prelude.{ℕ, ◌≡◌, refl, Bool, true, false, ltb, Option, Some, None}
 use Rattle.std.proofs.Common.{sym, ap, subst, ◌∙◌}
 use Rattle.time.specs.declared.Time.{Time}
 use Rattle.spi.specs.declared.types.Frame.{Frame}
-use Rattle.spi.specs.declared.types.Write.{Write}
-use Rattle.spi.specs.declared.types.Write.TheVariants as W
 use Rattle.spi.specs.declared.types.Clocked.TheVariants as Clocked
 use Rattle.spi.specs.Frame as F
 use Rattle.spi.specs.Lines.{past_end}
@@ -43,14 +41,14 @@ lost s rail now on e = rw (e, on)
 
 -- ---- a soft reset
 
-done_quiet : (w : Write) (s : Sensor) (now : Time) → write_resets s w ≡ true → is_quiet (E.write_done w s now) ≡ true
+done_quiet : (w : Option (ℕ × ℕ)) (s : Sensor) (now : Time) → write_resets s w ≡ true → is_quiet (E.write_done w s now) ≡ true
 unfolding E.write_done write_resets
-done_quiet W.Nothing s now e = absurd_bool (sym e)
-done_quiet (W.Register r v) s now e = reset_quiets s r v now (write_kind s r v) e
+done_quiet None s now e = absurd_bool (sym e)
+done_quiet (Some (r, v)) s now e = reset_quiets s r v now (write_kind s r v) e
 
-nothing_resets : (s : Sensor) (w : Write) → w ≡ W.Nothing → write_resets s w ≡ false
+nothing_resets : (s : Sensor) (w : Option (ℕ × ℕ)) → w ≡ None → write_resets s w ≡ false
 unfolding write_resets
-nothing_resets s w e = ap (λ (x : Write). write_resets s x) e
+nothing_resets s w e = ap (λ (x : Option (ℕ × ℕ)). write_resets s x) e
 
 module _ (m : Sensor) (h : Chosen m) (mosi : Bool) (now : Time) (e : write_resets (noted m) (spi_write m mosi) ≡ true) where
   clocking : m.frame.turnaround ≡ false
@@ -69,7 +67,7 @@ module _ (m : Sensor) (h : Chosen m) (mosi : Bool) (now : Time) (e : write_reset
   resets : write_resets (q m mosi now) (taken m mosi now).write ≡ true
   resets =
       resets_framed (t m mosi now) (taken m mosi now).frame (taken m mosi now).write
-      ∙ ap (λ (w : Write). write_resets (t m mosi now) w) write_is
+      ∙ ap (λ (w : Option (ℕ × ℕ)). write_resets (t m mosi now) w) write_is
       ∙ ap (λ (x : Sensor). write_resets x (spi_write m mosi)) (sym (noted_clocking m clocking))
       ∙ e
 

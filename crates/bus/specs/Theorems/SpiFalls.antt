@@ -1,5 +1,5 @@
 -- Within a write frame falls of the clock are of no account: only its rises count, and any number of falls may stand between them.
-use Rattle.std.specs.Prelude.{ℕ, ◌+◌, ◌≤◌, ◌<◌, ◌≡◌, Bool, true, false, cond, drop}
+use Rattle.std.specs.Prelude.{ℕ, ◌+◌, ◌≤◌, ◌<◌, ◌≡◌, Bool, true, false, cond, drop, Option, Some, None}
 use Rattle.std.proofs.Math.Nat.{add-zero}
 use native.Mathlib.Omega.{arith}
 use Rattle.std.proofs.Math.Path.{refl, subst}
@@ -10,13 +10,8 @@ use Rattle.laws.specs.Bytes.{sent_bit, shifted_in, all_shifted_in, seven_bits, b
 use Rattle.spi.specs.declared.types.Serial.{Serial}
 use Rattle.spi.specs.declared.types.Serial.TheVariants as S
 use Rattle.spi.specs.declared.types.Drive.TheVariants as D
-use Rattle.spi.specs.declared.types.Sent.{Sent}
 use Rattle.spi.specs.declared.types.Frame.{Frame}
-use Rattle.spi.specs.declared.types.FirstBit.{FirstBit}
-use Rattle.spi.specs.declared.types.FirstBit.TheVariants as K
 use Rattle.spi.specs.declared.types.Taken.{Taken}
-use Rattle.spi.specs.declared.types.Write.{Write}
-use Rattle.spi.specs.declared.types.Write.TheVariants as W
 use Rattle.spi.specs.declared.types.Clocked.{Clocked}
 use Rattle.spi.specs.declared.types.Shift.TheVariants as H
 use Rattle.spi.specs.Frame as F
@@ -43,20 +38,20 @@ pub record Passes (f : Frame) (es : List Event) (ns : List Now) (g : Frame) : Ty
   pub nothing : Nothing (seen f es ns)
   pub is_left : left f es ns ≡ g
 
-deeds_append : (ds : List Deed) (ws vs : List Write) → deed_writes ds (ws ++ vs) ≡ deed_writes ds ws ++ vs
+deeds_append : (ds : List Deed) (ws vs : List (Option (ℕ × ℕ))) → deed_writes ds (ws ++ vs) ≡ deed_writes ds ws ++ vs
 unfolding deed_writes
 deeds_append [] ws vs = refl
-deeds_append (Wrote a v ∷ ds) ws vs = ap (λ (l : List Write). W.Register a v ∷ l) (deeds_append ds ws vs)
+deeds_append (Wrote a v ∷ ds) ws vs = ap (λ (l : List (Option (ℕ × ℕ))). Some (a, v) ∷ l) (deeds_append ds ws vs)
 deeds_append (Fetched a ∷ ds) ws vs = deeds_append ds ws vs
 deeds_append (Noted a ∷ ds) ws vs = deeds_append ds ws vs
 
 writes_append : (l m : List Seen) → edge_writes (l ++ m) ≡ edge_writes l ++ edge_writes m
 unfolding edge_writes
 writes_append [] m = refl
-writes_append (a ∷ l) m = ap (λ (ws : List Write). deed_writes a.deeds ws) (writes_append l m) ∙ deeds_append a.deeds (edge_writes l) (edge_writes m)
+writes_append (a ∷ l) m = ap (λ (ws : List (Option (ℕ × ℕ))). deed_writes a.deeds ws) (writes_append l m) ∙ deeds_append a.deeds (edge_writes l) (edge_writes m)
 
 both_none : (l m : List Seen) → edge_writes l ≡ [] → edge_writes m ≡ [] → edge_writes (l ++ m) ≡ []
-both_none l m p q = writes_append l m ∙ ap (λ (ws : List Write). ws ++ edge_writes m) p ∙ q
+both_none l m p q = writes_append l m ∙ ap (λ (ws : List (Option (ℕ × ℕ))). ws ++ edge_writes m) p ∙ q
 
 -- one after the other
 and_nothing : (l m : List Seen) → Nothing l → Nothing m → Nothing (l ++ m)
@@ -81,7 +76,7 @@ one_passes {f} {g} e ns s d x =
     }
 
 -- whether the output moves or not, a byte being received floats and fetches nothing
-moves_as : (shows : ℕ → Sent) (moves : Bool) (s : Serial) (b x : ℕ) → F.reads s ≡ false
+moves_as : (shows : ℕ → Option ℕ) (moves : Bool) (s : Serial) (b x : ℕ) → F.reads s ≡ false
     → let h = cond moves (F.fetches s 8) H.Stay in (output shows (receiving s b x) h ≡ receiving s b x) × (fetched h ≡ [])
 unfolding F.reads F.fetches output fetched F.moved
 moves_as shows true S.Address b x r = (refl, refl)
@@ -89,12 +84,12 @@ moves_as shows true (S.Write a) b x r = (refl, refl)
 moves_as shows true (S.Read a) b x r = absurd_bool r
 moves_as shows false s b x r = (refl, refl)
 
-stays : (shows : ℕ → Sent) (at : Clocked) (w : Bool) (s : Serial) (b x : ℕ) → F.reads s ≡ false
+stays : (shows : ℕ → Option ℕ) (at : Clocked) (w : Bool) (s : Serial) (b x : ℕ) → F.reads s ≡ false
     → let h = F.shifts (receiving s b x) at w in (output shows (receiving s b x) h ≡ receiving s b x) × (fetched h ≡ [])
 unfolding F.shifts
 stays shows at w s b x r = moves_as shows (F.moves at w false) s b x r
 
-unnoted : (s : Serial) (b : ℕ) → F.reads s ≡ false → F.first_bit s b ≡ K.Nothing
+unnoted : (s : Serial) (b : ℕ) → F.reads s ≡ false → F.first_bit s b ≡ None
 unfolding F.reads F.first_bit
 unnoted S.Address b r = refl
 unnoted (S.Write a) b r = refl
@@ -102,14 +97,14 @@ unnoted (S.Read a) b r = absurd_bool r
 
 -- a rise whose bit leaves a byte being received, and no write
 rise_passes : (s : Serial) (r : F.reads s ≡ false) (b x : ℕ) (d : Bool) (ns : List Now) (to : Serial) (q : F.reads to ≡ false) (c y : ℕ)
-    → F.take_bit (receiving s b x) d (now ns).four_wire ≡ record { frame = receiving to c y; write = W.Nothing } → Passes (receiving s b x) (Rise d ∷ []) ns (receiving to c y)
+    → F.take_bit (receiving s b x) d (now ns).four_wire ≡ record { frame = receiving to c y; write = None } → Passes (receiving s b x) (Rise d ∷ []) ns (receiving to c y)
 unfolding serve deeds noted wrote
 rise_passes s r b x d ns to q c y e =
     let n = now ns in
     let still = stays n.shows Clocked.Rise n.four_wire_then to c y q in
     one_passes (Rise d) ns (ap (λ (t : Taken). bit_served n t) e ∙ still.0)
     (ap (λ (t : Taken). bit_deeds n (F.first_bit s b) t) e
-    ∙ ap (λ (k : FirstBit). noted k ++ fetched (F.shifts (receiving to c y) Clocked.Rise n.four_wire_then)) (unnoted s b r)
+    ∙ ap (λ (k : Option ℕ). noted k ++ fetched (F.shifts (receiving to c y) Clocked.Rise n.four_wire_then)) (unnoted s b r)
     ∙ still.1) refl
 
 fall_passes : (s : Serial) (r : F.reads s ≡ false) (b x : ℕ) (ns : List Now) → Passes (receiving s b x) (Fall ∷ []) ns (receiving s b x)
@@ -121,7 +116,7 @@ fall_passes s r b x ns =
 -- ---- fewer than eight rises of a byte, and any falls
 
 module _ (s : Serial) (r : F.reads s ≡ false) where
-  taken : (b x : ℕ) (d w : Bool) → b < 7 → F.take_bit (receiving s b x) d w ≡ record { frame = receiving s (b + 1) (shifted_in x d); write = W.Nothing }
+  taken : (b x : ℕ) (d w : Bool) → b < 7 → F.take_bit (receiving s b x) d w ≡ record { frame = receiving s (b + 1) (shifted_in x d); write = None }
   unfolding F.take_bit
   taken b x d w h = rw (lt-ltb b 7 h)
 
@@ -186,7 +181,7 @@ split (Rise c ∷ es) (b ∷ ds) d rest e =
 
 -- ---- an address byte and seven bits of a value, and any falls
 
-addressed : (a : ℕ) (w : Bool) → a < 128 → F.take_bit (receiving S.Address 7 (all_shifted_in 0 (seven_bits a))) (sent_bit a 7) w ≡ record { frame = receiving (S.Write a) 0 0; write = W.Nothing }
+addressed : (a : ℕ) (w : Bool) → a < 128 → F.take_bit (receiving S.Address 7 (all_shifted_in 0 (seven_bits a))) (sent_bit a 7) w ≡ record { frame = receiving (S.Write a) 0 0; write = None }
 unfolding F.take_bit F.completed F.addressed
 addressed a w h = rw (bits_make_the_byte a (omega arith), lt-ltb a 128 h)
 

@@ -1,8 +1,7 @@
 -- SPI frames through the calls: any accepted moments, with other calls anywhere between.
-use Rattle.std.specs.Prelude.{◌≡◌, refl, Bool, true, false, ◌&&◌, List, [], ◌∷◌}
+use Rattle.std.specs.Prelude.{◌≡◌, refl, Bool, true, false, ◌&&◌, List, [], ◌∷◌, Option, Some, None}
 use Rattle.std.proofs.Common.{sym, ◌∙◌}
 use Rattle.std.proofs.Math.Path.{ap, subst}
-use Rattle.std.proofs.Math.Option.{Option, none, some}
 use Rattle.laws.specs.Bools.{or_left, or_right}
 use Rattle.spi.specs.declared.types.Drive.TheVariants as D
 use Rattle.spi.specs.declared.types.Frame.{Frame}
@@ -64,8 +63,8 @@ AllFloat (a ∷ l) = (a.driven ≡ D.Floating) × AllFloat l
 floating_first : (s : Bma150) (c : Call) (o : Option Event) (es : List Event) (ns : List Now) (f : Frame) → f.driven ≡ D.Floating
     → AllFloat (seen f (and_some o es) (and_some (now_edge s c o) ns)) → ((predicted (now_of s c) f o).driven ≡ D.Floating) × AllFloat (seen (predicted (now_of s c) f o) es ns)
 unfolding seen and_some now_edge predicted
-floating_first s c none es ns f d x = (d, x)
-floating_first s c (some e) es ns f d x = (x.0, x.1)
+floating_first s c None es ns f d x = (d, x)
+floating_first s c (Some e) es ns f d x = (x.0, x.1)
 
 abbrev Course : Bma150 → List Call → List Seen
 Course s cs = seen s.sensor.frame (edges (accepted s cs)) (nows s cs)

@@ -1,10 +1,9 @@
 -- Lists of calls as a selected sensor that hears SPI meets them: what their edges make, whatever calls come between.
-use Rattle.std.specs.Prelude.{◌≡◌, Bool, ◌||◌}
+use Rattle.std.specs.Prelude.{◌≡◌, Bool, ◌||◌, Option, Some, None}
 use Rattle.std.proofs.Math.Path.{refl, sym, ap}
 use Rattle.std.proofs.Common.{◌∙◌}
 use Rattle.std.proofs.Math.Bool.{true, false}
 use mathlib.Core.List.{List, [], ◌∷◌}
-use Rattle.std.proofs.Math.Option.{Option, none, some}
 use Rattle.laws.specs.Bools.{or_right}
 use Rattle.spi.specs.declared.types.Drive.{Drive}
 use Rattle.spi.specs.declared.types.Drive.TheVariants as D
@@ -98,15 +97,15 @@ Through s cs =
 left_some : (s : Bma150) (c : Call) (o : Option Event) (es : List Event) (ns : List Now) (f : Frame)
     → left f (and_some o es) (and_some (now_edge s c o) ns) ≡ left (predicted (now_of s c) f o) es ns
 unfolding left and_some now_edge predicted
-left_some s c none es ns f = refl
-left_some s c (some e) es ns f = refl
+left_some s c None es ns f = refl
+left_some s c (Some e) es ns f = refl
 
 seen_some : (s : Bma150) (c : Call) (o : Option Event) (es : List Event) (ns : List Now) → let f = s.sensor.frame in
     spi_pin (step s c).sensor ≡ (predicted (now_of s c) f o).driven
     → seen f (and_some o es) (and_some (now_edge s c o) ns) ≡ and_some (seen_edge s c o) (seen (predicted (now_of s c) f o) es ns)
 unfolding seen and_some now_edge seen_edge predicted
-seen_some s c none es ns p = refl
-seen_some s c (some e) es ns p =
+seen_some s c None es ns p = refl
+seen_some s c (Some e) es ns p =
     let n = now_of s c in
     let f = s.sensor.frame in
     ap (λ (d : Drive). record { driven = d; sampled = samples n f e; deeds = deeds n f e } ∷ seen (serve n f e) es ns) (sym p)

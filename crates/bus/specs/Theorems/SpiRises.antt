@@ -1,5 +1,5 @@
 -- The frame after an SPI edge, by what the edge meets.
-use Rattle.std.specs.Prelude.{ℕ, ◌≡◌, Bool, ltb}
+use Rattle.std.specs.Prelude.{ℕ, ◌≡◌, Bool, ltb, Option, Some, None}
 use Rattle.std.proofs.Math.Path.{refl}
 use Rattle.std.proofs.Common.{sym, ap, ◌∙◌}
 use Rattle.std.proofs.Math.Bool.{true, false}
@@ -7,11 +7,8 @@ use Rattle.laws.specs.Bytes.{shifted_in}
 use Rattle.time.specs.declared.Time.{Time}
 use Rattle.spi.specs.declared.types.Serial.{Serial}
 use Rattle.spi.specs.declared.types.Serial.TheVariants as S
-use Rattle.spi.specs.declared.types.Sent.{Sent}
 use Rattle.spi.specs.declared.types.Frame.{Frame}
 use Rattle.spi.specs.declared.types.Taken.{Taken}
-use Rattle.spi.specs.declared.types.Write.{Write}
-use Rattle.spi.specs.declared.types.Write.TheVariants as W
 use Rattle.spi.specs.declared.types.Clocked.TheVariants as Clocked
 use Rattle.spi.specs.declared.types.Shift.{Shift}
 use Rattle.spi.specs.declared.types.Shift.TheVariants as H
@@ -32,10 +29,10 @@ use Rattle.bus.specs.Theorems.Fading.{fading, Faded, unfaded, and_faded, output_
 use Rattle.bus.specs.Theorems.SpiEdges.{faded_of, listens, around, around_same, moved_frame, moved_rest, sends_framed}
 
 -- only a fetch looks at the registers
-shown_alike : (f g : ℕ → Sent) (k : Frame) (sh : Shift) → ((a : ℕ) → f a ≡ g a) → output f k sh ≡ output g k sh
+shown_alike : (f g : ℕ → Option ℕ) (k : Frame) (sh : Shift) → ((a : ℕ) → f a ≡ g a) → output f k sh ≡ output g k sh
 unfolding output
 shown_alike f g k H.Stay q = refl
-shown_alike f g k (H.Fetch a) q = ap (λ (x : Sent). F.shifted k x) (q a)
+shown_alike f g k (H.Fetch a) q = ap (λ (x : Option ℕ). F.shifted k x) (q a)
 shown_alike f g k H.Next q = refl
 
 -- ---- the turnaround's rise
@@ -64,11 +61,11 @@ module _ (m : Sensor) (h : Chosen m) (mosi : Bool) (now : Time) (n : Now) where
       let f = F.turned m.frame in
       ap (λ (t : Sensor). around t) (turns e) ∙ (moved_rest (with_frame m f) (F.shifts f Clocked.Turnaround (four_wire m))).0
 
-is_write : Write → Bool
-is_write W.Nothing = false
-is_write (W.Register a v) = true
+is_write : Option (ℕ × ℕ) → Bool
+is_write None = false
+is_write (Some (a, v)) = true
 
-not_none : {A : Type 0} {a v : ℕ} → W.Nothing ≡ W.Register a v → A
+not_none : {A : Type 0} {a v : ℕ} → None ≡ Some (a, v) → A
 unfolding is_write
 not_none e = absurd_bool (sym (ap is_write e))
 
@@ -76,13 +73,13 @@ not_none e = absurd_bool (sym (ap is_write e))
 
 module _ (f : Frame) (mosi w : Bool) where
   -- the frame after a write waits for an address byte
-  written_frame : (s : Serial) (byte : ℕ) (a v : ℕ) → (F.completed s f byte w).write ≡ W.Register a v → (F.completed s f byte w).frame.serial ≡ S.Address
+  written_frame : (s : Serial) (byte : ℕ) (a v : ℕ) → (F.completed s f byte w).write ≡ Some (a, v) → (F.completed s f byte w).frame.serial ≡ S.Address
   unfolding F.completed
   written_frame S.Address byte a v e = not_none e
   written_frame (S.Read r) byte a v e = not_none e
   written_frame (S.Write r) byte a v e = refl
 
-  write_ends : (t : Bool) → ltb f.rx_bits 7 ≡ t → (a v : ℕ) → (F.take_bit f mosi w).write ≡ W.Register a v → (F.take_bit f mosi w).frame.serial ≡ S.Address
+  write_ends : (t : Bool) → ltb f.rx_bits 7 ≡ t → (a v : ℕ) → (F.take_bit f mosi w).write ≡ Some (a, v) → (F.take_bit f mosi w).frame.serial ≡ S.Address
   unfolding F.take_bit
   write_ends true e a v = rw e (λ g. not_none g)
   write_ends false e a v = rw e (λ g. written_frame f.serial (shifted_in f.rx mosi) a v g)
@@ -100,7 +97,7 @@ module _ (f : Frame) (mosi w : Bool) where
   write_alike z false e = rw e (completed_alike z f.serial (shifted_in f.rx mosi))
 
 -- outside a read nothing is fetched
-no_fetch : (f : Frame) (w : Bool) (g k : ℕ → Sent) → f.serial ≡ S.Address → output g f (F.shifts f Clocked.Rise w) ≡ output k f (F.shifts f Clocked.Rise w)
+no_fetch : (f : Frame) (w : Bool) (g k : ℕ → Option ℕ) → f.serial ≡ S.Address → output g f (F.shifts f Clocked.Rise w) ≡ output k f (F.shifts f Clocked.Rise w)
 unfolding F.shifts F.fetches output
 no_fetch f w g k e = by (F.moves Clocked.Rise w f.turnaround) refl
   where
@@ -129,17 +126,17 @@ ordinary WriteKind.Durations e = tt
 ordinary WriteKind.Plain e = tt
 
 module _ (q : Sensor) (now : Time) where
-  done_faded : {P : Type 0} (w : Write) → write_resets q w ≡ false → (P → (E.write_done w q now).sampling.asleep ≡ false) → Faded P q.frame (E.write_done w q now).frame
+  done_faded : {P : Type 0} (w : Option (ℕ × ℕ)) → write_resets q w ≡ false → (P → (E.write_done w q now).sampling.asleep ≡ false) → Faded P q.frame (E.write_done w q now).frame
   unfolding E.write_done write_resets
-  done_faded W.Nothing n a = unfaded refl
-  done_faded (W.Register r v) n a =
+  done_faded None n a = unfaded refl
+  done_faded (Some (r, v)) n a =
       let k = write_kind q r v in
       faded_of (written_same q r v now k n) (D.write_fades q r v now k) (λ p. D.write_driver q r v now k (ordinary k n) (a p))
 
-  pub done_around : (w : Write) → write_resets q w ≡ false → around (E.write_done w q now) ≡ around q
+  pub done_around : (w : Option (ℕ × ℕ)) → write_resets q w ≡ false → around (E.write_done w q now) ≡ around q
   unfolding E.write_done write_resets
-  done_around W.Nothing n = refl
-  done_around (W.Register r v) n = around_same (written_same q r v now (write_kind q r v) n)
+  done_around None n = refl
+  done_around (Some (r, v)) n = around_same (written_same q r v now (write_kind q r v) n)
 
 module _ (m : Sensor) (mosi : Bool) (now : Time) where
   -- after the note, the bit taken, the sensor with its frame, and after the write
@@ -156,11 +153,11 @@ module _ (m : Sensor) (mosi : Bool) (now : Time) where
   b = E.write_done taken.write q now
 
   -- what is sent at the same rise
-  sends_alike : (w : Write) (f : Frame) (z : Bool) → ((a v : ℕ) → w ≡ W.Register a v → f.serial ≡ S.Address)
+  sends_alike : (w : Option (ℕ × ℕ)) (f : Frame) (z : Bool) → ((a v : ℕ) → w ≡ Some (a, v) → f.serial ≡ S.Address)
       → output (sends (E.write_done w (with_frame t f) now)) f (F.shifts f Clocked.Rise z) ≡ output (sends t) f (F.shifts f Clocked.Rise z)
   unfolding E.write_done
-  sends_alike W.Nothing f z g = shown_alike (sends (with_frame t f)) (sends t) f (F.shifts f Clocked.Rise z) (λ a. sends_framed t f a)
-  sends_alike (W.Register a v) f z g = no_fetch f z (sends (write_register (with_frame t f) a v now)) (sends t) (g a v refl)
+  sends_alike None f z g = shown_alike (sends (with_frame t f)) (sends t) f (F.shifts f Clocked.Rise z) (λ a. sends_framed t f a)
+  sends_alike (Some (a, v)) f z g = no_fetch f z (sends (write_register (with_frame t f) a v now)) (sends t) (g a v refl)
 
   pub bit_faded : {P : Type 0} (n : Now) → write_resets q taken.write ≡ false → (P → b.sampling.asleep ≡ false)
       → n.four_wire ≡ four_wire t → n.four_wire_then ≡ four_wire b → ((a : ℕ) → n.shows a ≡ sends t a)

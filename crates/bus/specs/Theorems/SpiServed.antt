@@ -1,9 +1,8 @@
 -- An accepted call serves its edge, and any other call but select 0, a supply below 2400 mV and a soft reset leaves the frame.
-use Rattle.std.specs.Prelude.{ℕ, ◌≡◌, Bool, true, ◌||◌, [], ◌∷◌, ltb, ℤ}
+use Rattle.std.specs.Prelude.{ℕ, ◌≡◌, Bool, true, ◌||◌, [], ◌∷◌, ltb, ℤ, Option, Some, None}
 use Rattle.std.proofs.Math.Path.{refl, sym, ap, subst}
 use Rattle.std.proofs.Common.{◌∙◌}
 use Rattle.std.proofs.Math.Bool.{false}
-use Rattle.std.proofs.Math.Option.{Option, none, some}
 use Rattle.laws.specs.Bools.{or_left, or_right}
 use Rattle.time.specs.declared.Time.{Time}
 use Rattle.i2c.specs.declared.types.Levels.{Levels}
@@ -36,8 +35,8 @@ use Rattle.bus.specs.Theorems.SpiCalls.{caught_same, caught_faded, rise_faded, f
 
 -- the frame that an edge leaves; a call without one leaves it as it is
 unfoldable pub predicted : Now → Frame → Option Event → Frame
-predicted n f none = f
-predicted n f (some e) = serve n f e
+predicted n f None = f
+predicted n f (Some e) = serve n f e
 
 -- ---- a timed call
 
@@ -110,7 +109,7 @@ module _ (s : Bma150) (now : Time) (h : Chosen s.sensor) where
   at_now t = Call.At now t
 
   -- a call without an edge, whose effect leaves the frame but for its driver, and the parts beside it
-  no_edge : (t : Timed) → (ok : accepts s (at_now t) ≡ true) → timed_edge t ≡ none → Same y (effect y now t).sensor
+  no_edge : (t : Timed) → (ok : accepts s (at_now t) ≡ true) → timed_edge t ≡ None → Same y (effect y now t).sensor
       → Faded (sleeps_at s (at_now t) ≡ false) y.frame (effect y now t).sensor.frame → Left s (at_now t)
   unfolding predicted edge_of now_of
   no_edge t ok e p f =
@@ -199,7 +198,7 @@ module _ (s : Bma150) (now : Time) (h : Chosen s.sensor) where
 -- ---- any call
 
 module _ (s : Bma150) (h : Chosen s.sensor) where
-  same_sensor : (c : Call) → edge_of c ≡ none → accepts s c ≡ true → (leaves s c).sensor.frame ≡ s.sensor.frame → Chosen (leaves s c).sensor → Left s c
+  same_sensor : (c : Call) → edge_of c ≡ None → accepts s c ≡ true → (leaves s c).sensor.frame ≡ s.sensor.frame → Chosen (leaves s c).sensor → Left s c
   unfolding predicted
   same_sensor c e ok f k =
       let i = ap (λ (z : Bma150). z.sensor) (accepted_leaves s c ok) in

@@ -1,5 +1,6 @@
 -- Stored writes over SPI: fifteen rises, an address byte and seven bits of a value, begin nothing; the sixteenth begins a stored write exactly where 01's rule holds. Any falls may stand between.
-use Rattle.std.specs.Prelude.{ℕ, ◌<◌, ◌≡◌, Bool, true, false, List, [], ◌∷◌, ◌++◌, if◌then◌else◌}
+use Rattle.sensor.specs.Operation.{Operation}
+use Rattle.std.specs.Prelude.{ℕ, ◌<◌, ◌≡◌, Bool, true, false, List, [], ◌∷◌, ◌++◌, if◌then◌else◌, Option, Some, None}
 use Rattle.std.proofs.Math.Path.{refl, ap}
 use Rattle.std.proofs.Common.{◌∙◌}
 use Rattle.laws.specs.Bytes.{sent_bit, all_shifted_in, seven_bits, bits_make_the_byte}
@@ -10,16 +11,13 @@ use Rattle.spi.specs.declared.types.Frame.{Frame}
 use Rattle.spi.specs.declared.types.Taken.{Taken}
 use Rattle.spi.specs.declared.types.Shift.{Shift}
 use Rattle.spi.specs.declared.types.Shift.TheVariants as H
-use Rattle.spi.specs.declared.types.Write.TheVariants as W
 use Rattle.spi.specs.Frame as F
 use Rattle.spi.specs.Lines.{past_end, seen, Seen}
 use Rattle.spi.proofs.Theorems.Frames.{receiving}
 use Rattle.calls.specs.declared.types.Timed.TheVariants as Timed
 use Rattle.calls.specs.declared.types.Call.{Call}
-use Rattle.sensor.specs.declared.types.Writing.{Writing}
 use Rattle.sensor.specs.declared.types.Sensor.{Sensor}
 use Rattle.sensor.specs.RegisterReads as R
-use Rattle.sensor.specs.declared.types.View.{View}
 use Rattle.sensor.specs.Record.{with_frame, gate, is_writing, four_wire}
 use Rattle.samples.specs.Samples.{sync_local_until}
 use Rattle.writes.specs.Write.{write_register}
@@ -46,10 +44,10 @@ use Rattle.bus.specs.Theorems.SpiFalls.{levels, Passes, frame_passes}
 abbrev pub all_but_the_last_bit : (register value : ℕ) → List Bool
 all_but_the_last_bit a x = seven_bits a ++ (sent_bit a 7 ∷ seven_bits x)
 
-showing_writing : (v : View) (t : Sensor) (r : ℕ) → (E.showing (R.fetched v t r)).writing ≡ t.writing
+showing_writing : (v : Option ℕ) (t : Sensor) (r : ℕ) → (E.showing (R.fetched v t r)).writing ≡ t.writing
 unfolding R.fetched
-showing_writing View.Withheld t r = refl
-showing_writing (View.Byte b) t r = refl
+showing_writing None t r = refl
+showing_writing (Some b) t r = refl
 
 moved_writing : (sh : Shift) (t : Sensor) → (E.moved sh t).writing ≡ t.writing
 unfolding E.moved
@@ -65,7 +63,7 @@ rise_done m mosi at =
 
 -- within the value byte of a write nothing is noted, and the eighth bit writes
 written_at : (m : Sensor) (mosi : Bool) (at : Time) (a x y : ℕ) → m.frame ≡ receiving (S.Write a) 7 y
-    → ((w : Bool) → F.take_bit (receiving (S.Write a) 7 y) mosi w ≡ record { frame = F.fresh true; write = W.Register a x })
+    → ((w : Bool) → F.take_bit (receiving (S.Write a) 7 y) mosi w ≡ record { frame = F.fresh true; write = Some (a, x) })
     → rise_done m mosi at ≡ write_register (with_frame m (F.fresh true)) a x at
 unfolding E.first_bit_taken F.first_bit E.write_done
 written_at m mosi at a x y f w =
@@ -118,12 +116,12 @@ module _ (s : Bma150) (cs : List Call) (h : Chosen s.sensor) (n : left_frame s c
     met_heard = chosen (rise_met ⊥ t at heard (λ p. absurd p) (λ p. absurd p)) heard
 
     -- the bit completes the value
-    completes : (w : Bool) → F.take_bit (receiving (S.Write a) 7 so_far) (sent_bit x 7) w ≡ record { frame = F.fresh true; write = W.Register a x }
+    completes : (w : Bool) → F.take_bit (receiving (S.Write a) 7 so_far) (sent_bit x 7) w ≡ record { frame = F.fresh true; write = Some (a, x) }
     unfolding F.take_bit F.completed
     completes w = rw (bits_make_the_byte x lx)
 
     -- the write book asks for that write, of that sensor
-    pub last_rise_asks : (((does c).asks t).write ≡ W.Register a x) × (((does c).asks t).meets ≡ met)
+    pub last_rise_asks : (((does c).asks t).write ≡ Some (a, x)) × (((does c).asks t).meets ≡ met)
     unfolding does timed_does
     last_rise_asks = (
       rise_write met met_heard (sent_bit x 7) (ap (λ (f : Frame). f.turnaround) met_frame)
@@ -134,12 +132,12 @@ module _ (s : Bma150) (cs : List Call) (h : Chosen s.sensor) (n : left_frame s c
 
     -- and an accepted one begins it at its time, exactly where 01's rule holds
     pub last_rise_begins : accepts (after s cs) c ≡ true
-        → (step (after s cs) c).sensor.writing.operation ≡ (if begins a x (gate met) (is_writing met) then running a x at else met.writing.operation)
+        → (step (after s cs) c).sensor.writing ≡ (if begins a x (gate met) (is_writing met) then running a x at else met.writing)
     unfolding leaves effect
     last_rise_begins ok =
         let bit = sent_bit x 7 in
-        ap (λ (k : Bma150). k.sensor.writing.operation) (accepted_leaves (after s cs) c ok)
-        ∙ ap (λ (k : Sensor). k.writing.operation) (clocks met met_heard bit at past_end (ap (λ (f : Frame). f.turnaround) met_frame))
-        ∙ ap (λ (k : Writing). k.operation) (moved_writing _ (rise_done met bit at))
-        ∙ ap (λ (k : Sensor). k.writing.operation) (written_at met bit at a x so_far met_frame completes)
+        ap (λ (k : Bma150). k.sensor.writing) (accepted_leaves (after s cs) c ok)
+        ∙ ap (λ (k : Sensor). k.writing) (clocks met met_heard bit at past_end (ap (λ (f : Frame). f.turnaround) met_frame))
+        ∙ ap (λ (k : Operation). k.operation) (moved_writing _ (rise_done met bit at))
+        ∙ ap (λ (k : Sensor). k.writing) (written_at met bit at a x so_far met_frame completes)
         ∙ write_begins (with_frame met (F.fresh true)) a x at

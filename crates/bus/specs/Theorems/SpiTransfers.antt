@@ -1,14 +1,12 @@
 -- Whole SPI frames of a selected sensor through the calls, in both wire modes.
-use Rattle.std.specs.Prelude.{ℕ, zero, suc, ◌+◌, ◌≤◌, ◌<◌, ◌≡◌, Bool, eqb, drop, replicate, if◌then◌else◌}
+use Rattle.std.specs.Prelude.{ℕ, zero, suc, ◌+◌, ◌≤◌, ◌<◌, ◌≡◌, Bool, eqb, drop, replicate, if◌then◌else◌, Option, Some, None}
 use native.Mathlib.Omega.{arith}
 use Rattle.std.proofs.Math.Path.{refl, ap}
 use Rattle.std.proofs.Common.{sym, subst, ◌∙◌, length-drop}
 use Rattle.std.proofs.Math.Bool.{true, false}
 use mathlib.Core.List.{List, [], ◌∷◌, ◌++◌}
-use Rattle.std.proofs.Math.Option.{Option, none, some}
 use Rattle.std.proofs.Math.ListN.{length}
 use Rattle.time.specs.declared.Time.{Time}
-use Rattle.spi.specs.declared.types.Sent.{Sent}
 use Rattle.spi.specs.declared.types.Frame.{Frame}
 use Rattle.spi.specs.Frame as F
 use Rattle.spi.specs.Lines.{Event, Rise, Fall, Deed, Wrote, Now, Seen, now, left, seen}
@@ -44,8 +42,8 @@ use Rattle.bus.specs.Theorems.SpiFrames.{awake_exact, AllFloat, floating_exact}
 
 and_some_length : (s : Bma150) (c : Call) (o : Option Event) (es : List Event) (ns : List Now) → length ns ≡ length es → length (and_some (now_edge s c o) ns) ≡ length (and_some o es)
 unfolding and_some now_edge
-and_some_length s c none es ns e = e
-and_some_length s c (some d) es ns e = ap suc e
+and_some_length s c None es ns e = e
+and_some_length s c (Some d) es ns e = ap suc e
 
 pub nows_length : (cs : List Call) (s : Bma150) → length (nows s cs) ≡ length (edges (accepted s cs))
 unfolding nows accepted edges
@@ -187,7 +185,7 @@ module _ (s : Sensor) (at : Time) (h : Chosen s) where
 
 -- ---- what `peek` withholds floats
 
-pub withheld_floats : (s : Sensor) (r : ℕ) → withheld r (gate s) ≡ true → sends s r ≡ Sent.Nothing
+pub withheld_floats : (s : Sensor) (r : ℕ) → withheld r (gate s) ≡ true → sends s r ≡ None
 unfolding peek fetched
 withheld_floats s r e = rw (e, sends)
 

@@ -1,5 +1,6 @@
 -- Stored writes over I2C: START, 70 hex, a register and seven bits of a value begin nothing; the eighth rise begins a stored write exactly where 01's rule holds.
-use Rattle.std.specs.Prelude.{ℕ, ◌%◌, ◌<◌, ◌≡◌, Bool, true, false, List, [], ◌++◌, if◌then◌else◌}
+use Rattle.sensor.specs.Operation.{Operation}
+use Rattle.std.specs.Prelude.{ℕ, ◌%◌, ◌<◌, ◌≡◌, Bool, true, false, List, [], ◌++◌, if◌then◌else◌, Some}
 use Rattle.std.proofs.Math.Path.{refl, ap}
 use Rattle.std.proofs.Common.{◌∙◌, leb→le}
 use Rattle.laws.specs.Bytes.{sent_bit, all_shifted_in, seven_bits, bits_make_the_byte}
@@ -20,12 +21,10 @@ use Rattle.i2c.specs.Answers.{frees, acknowledge, address_answer, register_answe
 use Rattle.i2c.proofs.Theorems.Frames.{and_serves, at, bits_received, write_address_served, register_byte}
 use Rattle.i2c.proofs.Theorems.Uses.{uses}
 use Rattle.registers.specs.Access.{begins}
-use Rattle.spi.specs.declared.types.Write.{Write}
 use Rattle.control.specs.declared.types.WriteKind.{WriteKind}
 use Rattle.control.specs.Theorems.Begins.{is_stored, stored_begins}
 use Rattle.calls.specs.declared.types.Timed.TheVariants as Timed
 use Rattle.calls.specs.declared.types.Call.{Call}
-use Rattle.sensor.specs.declared.types.Operation.{Operation}
 use Rattle.sensor.specs.declared.types.Sensor.{Sensor}
 use Rattle.sensor.specs.Record.{with_i2c, gate, is_writing}
 use Rattle.sensor.specs.Mode.{soft_reset, criterion}
@@ -48,20 +47,20 @@ use Rattle.bus.specs.Theorems.Asked.{asked_are_seen, call_asks}
 -- ---- what a register write leaves of the running write
 
 abbrev pub running : (address value : ℕ) (now : Time) → Operation
-running address value now = Operation.Running (Cycle.start now) address value
+running address value now = Some (Cycle.start now, address, value)
 
 module _ (s : Sensor) (address value : ℕ) (now : Time) where
   abbrev left : WriteKind → Operation
-  left w = (write_effect w s address value now).writing.operation
+  left w = (write_effect w s address value now).writing
 
-  kept : (t : Sensor) → C.Keeps s t → t.writing.operation ≡ s.writing.operation
-  kept t k = ap (λ (c : C.Core). c.writing.operation) k.same
+  kept : (t : Sensor) → C.Keeps s t → t.writing ≡ s.writing
+  kept t k = ap (λ (c : C.Core). c.writing) k.same
 
-  by_kind : (w : WriteKind) → left w ≡ (if is_stored w then running address value now else s.writing.operation)
+  by_kind : (w : WriteKind) → left w ≡ (if is_stored w then running address value now else s.writing)
   unfolding write_effect register_effect is_stored K.Ordinary
   by_kind WriteKind.Ignored = refl
   by_kind WriteKind.Stored = refl
-  by_kind WriteKind.Reset = ap (λ (c : C.Core). c.writing.operation) (K.automatic_keeps (soft_reset s now) now (criterion s) false).same
+  by_kind WriteKind.Reset = ap (λ (c : C.Core). c.writing) (K.automatic_keeps (soft_reset s now) now (criterion s) false).same
   by_kind WriteKind.Control = kept _ (K.then_automatic_keeps WriteKind.Control s address value now tt)
   by_kind WriteKind.Measurement = kept _ (K.then_automatic_keeps WriteKind.Measurement s address value now tt)
   by_kind WriteKind.Operation = kept _ (K.then_automatic_keeps WriteKind.Operation s address value now tt)
@@ -69,10 +68,10 @@ module _ (s : Sensor) (address value : ℕ) (now : Time) where
   by_kind WriteKind.Plain = kept _ (K.then_automatic_keeps WriteKind.Plain s address value now tt)
 
   -- a stored write begins exactly where 01's rule holds; else what ran runs on
-  pub write_begins : (write_register s address value now).writing.operation ≡ (if begins address value (gate s) (is_writing s) then running address value now else s.writing.operation)
+  pub write_begins : (write_register s address value now).writing ≡ (if begins address value (gate s) (is_writing s) then running address value now else s.writing)
   write_begins =
       by_kind (write_kind s address value)
-      ∙ ap (λ (b : Bool). if b then running address value now else s.writing.operation) (stored_begins address value (gate s) (is_writing s))
+      ∙ ap (λ (b : Bool). if b then running address value now else s.writing) (stored_begins address value (gate s) (is_writing s))
 
 -- ---- through the calls
 
@@ -120,7 +119,7 @@ module _ (s : Bma150) (cs : List Call) (h : Heard s.sensor) (n : ended s cs ≡ 
     hearing = stays_heard cs s h n
 
     -- the write book asks for that write, of the sensor with the sample of the moment
-    pub last_rise_asks : (((does report).asks (after s cs).sensor).write ≡ Write.Register (register % 128) value) × (((does report).asks (after s cs).sensor).meets ≡ met)
+    pub last_rise_asks : (((does report).asks (after s cs).sensor).write ≡ Some (register % 128, value)) × (((does report).asks (after s cs).sensor).meets ≡ met)
     unfolding action_write does timed_does event timed_event
     last_rise_asks = (
       call_asks (after s cs).sensor hearing report ∙ ap action_write asks_write,
@@ -129,14 +128,14 @@ module _ (s : Bma150) (cs : List Call) (h : Heard s.sensor) (n : ended s cs ≡ 
 
     -- and an accepted last rise begins it at its time, exactly where 01's rule holds
     pub last_rise_begins : accepts (after s cs) report ≡ true
-        → (step (after s cs) report).sensor.writing.operation
-        ≡ (if begins (register % 128) value (gate met) (is_writing met) then running (register % 128) value now else met.writing.operation)
+        → (step (after s cs) report).sensor.writing
+        ≡ (if begins (register % 128) value (gate met) (is_writing met) then running (register % 128) value now else met.writing)
     unfolding acted
     last_rise_begins ok =
         let t = (after s cs).sensor in
         let f = edge before next in
         let st = stepped_to t f in
-        ap (λ (u : Sensor). u.writing.operation) (report_through_call (after s cs) now before next ok hearing)
-        ∙ ap (λ (d : Action). (acted d (with_i2c (meets t f now) st) now).writing.operation) asks_write
-        ∙ ap (λ (u : Sensor). (acted (A.Write (register % 128) value) (with_i2c u st) now).writing.operation) (deed_met (deed (target_of t) f) asks_write)
+        ap (λ (u : Sensor). u.writing) (report_through_call (after s cs) now before next ok hearing)
+        ∙ ap (λ (d : Action). (acted d (with_i2c (meets t f now) st) now).writing) asks_write
+        ∙ ap (λ (u : Sensor). (acted (A.Write (register % 128) value) (with_i2c u st) now).writing) (deed_met (deed (target_of t) f) asks_write)
         ∙ write_begins (with_i2c met st) (register % 128) value now

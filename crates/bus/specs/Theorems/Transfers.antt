@@ -1,7 +1,6 @@
 -- UM10204's transfers through the calls: any accepted moments, with other calls and reports without an event anywhere between.
-use Rattle.std.specs.Prelude.{ℕ, ◌%◌, ◌<◌, ◌≤◌, ◌≡◌, refl, Bool, true, false, not, ◌&&◌, List, [], ◌∷◌, ◌++◌, length, drop, if◌then◌else◌}
+use Rattle.std.specs.Prelude.{ℕ, ◌%◌, ◌<◌, ◌≤◌, ◌≡◌, refl, Bool, true, false, not, ◌&&◌, List, [], ◌∷◌, ◌++◌, length, drop, if◌then◌else◌, Option, Some, None}
 use Rattle.std.proofs.Common.{ap, ◌∙◌}
-use Rattle.std.proofs.Math.Option.{Option, none, some}
 use Rattle.time.specs.declared.Time.{Time}
 use Rattle.i2c.specs.declared.types.Levels.{Levels}
 use Rattle.i2c.specs.declared.types.Edge.{Edge}
@@ -18,7 +17,6 @@ use Rattle.registers.specs.Access.{withheld, unreadable}
 use Rattle.calls.specs.declared.types.Timed.TheVariants as Timed
 use Rattle.calls.specs.declared.types.Call.{Call}
 use Rattle.reads.specs.Reads.{is_shadowed, prepared}
-use Rattle.sensor.specs.declared.types.View.{View}
 use Rattle.sensor.specs.declared.types.Sensor.{Sensor}
 use Rattle.sensor.specs.Record.{with_lines, with_i2c, serial_not_ready, is_quiet, four_wire, gate}
 use Rattle.sensor.specs.RegisterReads.{peek, fetched}
@@ -127,20 +125,20 @@ asleep_reads_ones s r e = withheld_reads_ones s r (asleep_withholds r (gate s) (
 
 -- the viewed byte, or ones
 unfoldable pub or_ones : Option ℕ → ℕ
-or_ones none = 0xff
-or_ones (some b) = b
+or_ones None = 0xff
+or_ones (Some b) = b
 
 -- the value of an answer that is a view's
 value_of : Added → Option ℕ
-value_of Added.nothing = none
-value_of (Added.report values) = none
+value_of Added.nothing = None
+value_of (Added.report values) = None
 value_of (Added.viewed value mark) = value
-value_of (Added.put bytes) = none
+value_of (Added.put bytes) = None
 
-viewed_fetched : (v : View) (s : Sensor) (r : ℕ) → is_shadowed r (not (shadow_dis (at s.registers operation))) ≡ false → ones_for (fetched v s r).sent ≡ or_ones (view_value v)
+viewed_fetched : (v : Option ℕ) (s : Sensor) (r : ℕ) → is_shadowed r (not (shadow_dis (at s.registers operation))) ≡ false → ones_for (fetched v s r).sent ≡ or_ones (view_value v)
 unfolding fetched ones_for or_ones view_value prepared
-viewed_fetched View.Withheld s r e = refl
-viewed_fetched (View.Byte b) s r e = rw e
+viewed_fetched None s r e = refl
+viewed_fetched (Some b) s r e = rw e
 
 pub read_is_view : (s : Bma150) (r : ℕ) (v mark : Option ℕ) → is_shadowed r (not (shadow_dis (at s.sensor.registers operation))) ≡ false
     → adds s (Call.View r) ≡ Added.viewed v mark → fetch s.sensor r ≡ or_ones v

@@ -1,12 +1,10 @@
 -- A call gets number n exactly if n is that of the first fault of 01's table that is there, or 0 where there is none.
-use Rattle.std.specs.Prelude.{ℕ, ◌/◌, ◌%◌, ◌^◌, ◌≤◌, ◌<◌, ◌≡◌, refl, Bool, true, false, not, ◌&&◌, ◌||◌, ◌⊎◌, List, [], ◌∷◌, ltb, eqb, ℤ, pos, negsuc, nat_abs}
+use Rattle.std.specs.Prelude.{ℕ, ◌/◌, ◌%◌, ◌^◌, ◌≤◌, ◌<◌, ◌≡◌, refl, Bool, true, false, not, ◌&&◌, ◌||◌, ◌⊎◌, List, [], ◌∷◌, ltb, eqb, ℤ, pos, negsuc, nat_abs, Option, Some, None}
 use Rattle.std.proofs.Common.{arith, sym, ap, ◌∙◌, inl, inr, leb-true, le-leb, ltb-true, lt-ltb, eqb-true, eq-eqb, ne_eqb}
 use Rattle.std.specs.Bool.{beq}
 use Rattle.time.specs.declared.Time.{Time}
 use Rattle.time.specs.Time.{ticks}
 use Rattle.i2c.specs.declared.types.Levels.{Levels}
-use Rattle.deadlines.specs.declared.Deadline.{Deadline}
-use Rattle.deadlines.specs.declared.Deadline.TheVariants.{At, Never}
 use Rattle.deadlines.specs.Deadlines.{is_at, is_by}
 use Rattle.calls.specs.declared.types.Timed.{Timed}
 use Rattle.calls.specs.declared.types.Call.{Call}
@@ -24,13 +22,13 @@ abbrev pub Beyond : ℤ → Type 0
 Beyond axis = 1000000000 < nat_abs axis
 
 -- next due is at or before this time, and is this time
-abbrev pub DueBy : Deadline → Time → Type 0
-DueBy Never now = ⊥
-DueBy (At d) now = ticks d ≤ ticks now
+abbrev pub DueBy : Option Time → Time → Type 0
+DueBy None now = ⊥
+DueBy (Some d) now = ticks d ≤ ticks now
 
-abbrev pub DueAt : Deadline → Time → Type 0
-DueAt Never now = ⊥
-DueAt (At d) now = ticks d ≡ ticks now
+abbrev pub DueAt : Option Time → Time → Type 0
+DueAt None now = ⊥
+DueAt (Some d) now = ticks d ≡ ticks now
 
 -- 1: the buffer for the stored image is not 19 bytes
 abbrev pub WrongLength : Call → Type 0
@@ -66,7 +64,7 @@ Jumps lines (Timed.Rising mosi) = ⊥
 Jumps lines Timed.Falling = ⊥
 Jumps lines (Timed.Pins before after) = before ≡ lines → ⊥
 
-abbrev pub DueFirst : Deadline → Time → Timed → Type 0
+abbrev pub DueFirst : Option Time → Time → Timed → Type 0
 DueFirst due now (Timed.Accelerations x y z) = DueBy due now
 DueFirst due now (Timed.Supply rail) = DueBy due now
 DueFirst due now Timed.Due = ⊥
@@ -74,7 +72,7 @@ DueFirst due now (Timed.Rising mosi) = DueBy due now
 DueFirst due now Timed.Falling = DueBy due now
 DueFirst due now (Timed.Pins before after) = DueBy due now
 
-abbrev pub NotDue : Deadline → Time → Timed → Type 0
+abbrev pub NotDue : Option Time → Time → Timed → Type 0
 NotDue due now (Timed.Accelerations x y z) = ⊥
 NotDue due now (Timed.Supply rail) = ⊥
 NotDue due now Timed.Due = DueAt due now → ⊥
@@ -90,7 +88,7 @@ IsTimed (Call.View address) So = ⊥
 IsTimed (Call.StoredImage now n) So = ⊥
 
 -- 01's table, in its order
-abbrev pub faults : Time → Deadline → Levels → Call → List Fault
+abbrev pub faults : Time → Option Time → Levels → Call → List Fault
 faults last due lines c =
     fault 1 (WrongLength c)
     ∷ fault 3 (HasTime c (λ now. 2 ^ 32 ≤ now.0))
@@ -149,25 +147,25 @@ axes_whole x y z (inl p) = either_left (beyond x) _ (axis_whole x p)
 axes_whole x y z (inr (inl p)) = either_right (beyond x) _ (either_left (beyond y) _ (axis_whole y p))
 axes_whole x y z (inr (inr p)) = either_right (beyond x) _ (either_right (beyond y) _ (axis_whole z p))
 
-by_only : (due : Deadline) (now : Time) → is_by due now ≡ true → DueBy due now
+by_only : (due : Option Time) (now : Time) → is_by due now ≡ true → DueBy due now
 unfolding is_by
-by_only Never now p = never p
-by_only (At d) now p = leb-true (ticks d) (ticks now) p
+by_only None now p = never p
+by_only (Some d) now p = leb-true (ticks d) (ticks now) p
 
-by_whole : (due : Deadline) (now : Time) → DueBy due now → is_by due now ≡ true
+by_whole : (due : Option Time) (now : Time) → DueBy due now → is_by due now ≡ true
 unfolding is_by
-by_whole Never now p = absurd p
-by_whole (At d) now p = le-leb (ticks d) (ticks now) p
+by_whole None now p = absurd p
+by_whole (Some d) now p = le-leb (ticks d) (ticks now) p
 
-at_only : (due : Deadline) (now : Time) → is_at due now ≡ true → DueAt due now
+at_only : (due : Option Time) (now : Time) → is_at due now ≡ true → DueAt due now
 unfolding is_at
-at_only Never now p = never p
-at_only (At d) now p = eqb-true (ticks d) (ticks now) p
+at_only None now p = never p
+at_only (Some d) now p = eqb-true (ticks d) (ticks now) p
 
-at_whole : (due : Deadline) (now : Time) → DueAt due now → is_at due now ≡ true
+at_whole : (due : Option Time) (now : Time) → DueAt due now → is_at due now ≡ true
 unfolding is_at
-at_whole Never now p = absurd p
-at_whole (At d) now p = eq-eqb (ticks d) (ticks now) p
+at_whole None now p = absurd p
+at_whole (Some d) now p = eq-eqb (ticks d) (ticks now) p
 
 not_only : {P : Type 0} (b : Bool) → (P → b ≡ true) → not b ≡ true → P → ⊥
 not_only true f e p = never e
@@ -191,10 +189,10 @@ late_tells now = record { only = leb-true (2 ^ 32) now.0; whole = le-leb (2 ^ 32
 back_tells : (last now : Time) → Tells (ticks now < ticks last) (ltb (ticks now) (ticks last))
 back_tells last now = record { only = ltb-true (ticks now) (ticks last); whole = lt-ltb (ticks now) (ticks last) }
 
-by_tells : (due : Deadline) (now : Time) → Tells (DueBy due now) (is_by due now)
+by_tells : (due : Option Time) (now : Time) → Tells (DueBy due now) (is_by due now)
 by_tells due now = record { only = by_only due now; whole = by_whole due now }
 
-not_at_tells : (due : Deadline) (now : Time) → Tells (DueAt due now → ⊥) (not (is_at due now))
+not_at_tells : (due : Option Time) (now : Time) → Tells (DueAt due now → ⊥) (not (is_at due now))
 not_at_tells due now = record { only = not_only (is_at due now) (at_whole due now); whole = not_whole (is_at due now) (at_only due now) }
 
 axes_tell : (x y z : ℤ) → Tells (Beyond x ⊎ (Beyond y ⊎ Beyond z)) (any_beyond x y z)
@@ -246,7 +244,7 @@ jump_tells : (lines before : Levels) → Tells (before ≡ lines → ⊥) (not (
 jump_tells lines before =
     record { only = not_only (same_levels lines before) (same_whole lines before); whole = not_whole (same_levels lines before) (same_only lines before) }
 
-module _ (last : Time) (due : Deadline) (lines : Levels) where
+module _ (last : Time) (due : Option Time) (lines : Levels) where
   abbrev Found : Call → Type 0
   Found c = Finds (record { last = last; due = due; lines = lines; call = facts c }) rows (faults last due lines c)
 
@@ -307,7 +305,7 @@ is_true : (b : Bool) → not b ≡ false → b ≡ true
 is_true true e = refl
 is_true false e = never (sym e)
 
-pub follows_on : (last : Time) (due : Deadline) (lines : Levels) (now : Time) (before after : Levels) → eqb (refusal last due lines (Call.At now (Timed.Pins before after))) 0 ≡ true → before ≡ lines
+pub follows_on : (last : Time) (due : Option Time) (lines : Levels) (now : Time) (before after : Levels) → eqb (refusal last due lines (Call.At now (Timed.Pins before after))) 0 ≡ true → before ≡ lines
 unfolding facts timed_facts jumps
 follows_on last due lines now before after e =
     same_only lines before (is_true (same_levels lines before) (clear last due lines (Call.At now (Timed.Pins before after)) e).1.1.1.1.0)

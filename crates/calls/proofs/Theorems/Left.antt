@@ -1,10 +1,9 @@
 -- What a refused and an accepted call leave, and what an accepted one has.
-use Rattle.std.specs.Prelude.{ℕ, ◌≡◌, Bool, true, false, not, eqb, ℤ}
+use Rattle.std.specs.Prelude.{ℕ, ◌≡◌, Bool, true, false, not, eqb, ℤ, Option}
 use Rattle.std.proofs.Common.{arith, sym, eqb-true}
 use Rattle.std.proofs.Math.Path.{refl}
 use Rattle.time.specs.declared.Time.{Time}
 use Rattle.i2c.specs.declared.types.Levels.{Levels}
-use Rattle.deadlines.specs.declared.Deadline.{Deadline}
 use Rattle.calls.specs.declared.types.Call.{Call}
 use Rattle.calls.specs.declared.types.Starting.{Starting}
 use Rattle.calls.specs.Facts.{facts}
@@ -20,7 +19,7 @@ unfolding unless_refused
 refused_is n x y e = rw e
 
 -- no test of the table finds anything in an accepted call
-pub clear : (last : Time) (due : Deadline) (lines : Levels) (c : Call) → eqb (refusal last due lines c) 0 ≡ true → Clear (record { last = last; due = due; lines = lines; call = facts c }) rows
+pub clear : (last : Time) (due : Option Time) (lines : Levels) (c : Call) → eqb (refusal last due lines c) 0 ≡ true → Clear (record { last = last; due = due; lines = lines; call = facts c }) rows
 unfolding refusal
 clear last due lines c e = clear_is _ rows (omega arith) (eqb-true _ 0 e)
 
@@ -37,12 +36,12 @@ pub start_length : (by : Starting) (now : Time) (n m : ℕ) → eqb (start_refus
 unfolding wrong_length
 start_length by now n m e = is_nineteen n (eqb n 19) refl (start_clear by now n m e).0
 
-pub buffer_length : (last : Time) (due : Deadline) (lines : Levels) (now : Time) (n : ℕ) → eqb (refusal last due lines (Call.StoredImage now n)) 0 ≡ true → n ≡ 19
+pub buffer_length : (last : Time) (due : Option Time) (lines : Levels) (now : Time) (n : ℕ) → eqb (refusal last due lines (Call.StoredImage now n)) 0 ≡ true → n ≡ 19
 unfolding facts wrong_length
 buffer_length last due lines now n e = is_nineteen n (eqb n 19) refl (clear last due lines (Call.StoredImage now n) e).0
 
 -- 01: temperature, select and view have no refusal
-module _ (last : Time) (due : Deadline) (lines : Levels) where
+module _ (last : Time) (due : Option Time) (lines : Levels) where
   pub temperature_accepted : (x : ℤ) → refusal last due lines (Call.Temperature x) ≡ 0
   unfolding refusal first_found facts wrong_length too_late goes_back out_of_range jumps before_due beside_due
   temperature_accepted x = refl

@@ -1,8 +1,7 @@
 -- The order of the refusals: read off the table, and computed on calls with several faults.
-use Rattle.std.specs.Prelude.{ℕ, ◌^◌, ◌≡◌, refl, List, [], ◌∷◌, Bool, true, false, ℤ, pos}
+use Rattle.std.specs.Prelude.{ℕ, ◌^◌, ◌≡◌, refl, List, [], ◌∷◌, Bool, true, false, ℤ, pos, Some, None}
 use Rattle.time.specs.declared.Time.{Time}
 use Rattle.i2c.specs.declared.types.Levels.{Levels}
-use Rattle.deadlines.specs.declared.Deadline.TheVariants.{At, Never}
 use Rattle.deadlines.specs.Deadlines.{is_at, is_by}
 use Rattle.calls.specs.declared.types.Timed.{Timed}
 use Rattle.calls.specs.declared.types.Call.TheVariants as Call
@@ -57,28 +56,28 @@ stored_starts =
 
 abbrev stored_images : List ℕ
 stored_images =
-    refusal (s (2 ^ 33)) Never high (Call.StoredImage far 20)
-    ∷ refusal (s (2 ^ 33)) Never high (Call.StoredImage far 19)
-    ∷ refusal (s 9) (At (s 1)) high (Call.StoredImage (s 8) 19)
-    ∷ refusal (s 9) (At (s 1)) high (Call.StoredImage (s 9) 19)
+    refusal (s (2 ^ 33)) None high (Call.StoredImage far 20)
+    ∷ refusal (s (2 ^ 33)) None high (Call.StoredImage far 19)
+    ∷ refusal (s 9) (Some (s 1)) high (Call.StoredImage (s 8) 19)
+    ∷ refusal (s 9) (Some (s 1)) high (Call.StoredImage (s 9) 19)
     ∷ []
 
 abbrev accelerations : List ℕ
 accelerations =
-    refusal (s (2 ^ 33)) (At (s 1)) high (Call.At far (Timed.Accelerations wide wide wide))
-    ∷ refusal (s 9) (At (s 1)) high (Call.At (s 8) (Timed.Accelerations (pos 0) wide (pos 0)))
-    ∷ refusal (s 9) (At (s 9)) high (Call.At (s 9) (Timed.Accelerations (pos 0) (pos 0) wide))
-    ∷ refusal (s 9) (At (s 9)) high (Call.At (s 9) (Timed.Accelerations (pos 1000000000) (pos 0) (pos 0)))
-    ∷ refusal (s 9) (At (s 10)) high (Call.At (s 9) (Timed.Accelerations (pos 1000000000) (pos 0) (pos 0)))
+    refusal (s (2 ^ 33)) (Some (s 1)) high (Call.At far (Timed.Accelerations wide wide wide))
+    ∷ refusal (s 9) (Some (s 1)) high (Call.At (s 8) (Timed.Accelerations (pos 0) wide (pos 0)))
+    ∷ refusal (s 9) (Some (s 9)) high (Call.At (s 9) (Timed.Accelerations (pos 0) (pos 0) wide))
+    ∷ refusal (s 9) (Some (s 9)) high (Call.At (s 9) (Timed.Accelerations (pos 1000000000) (pos 0) (pos 0)))
+    ∷ refusal (s 9) (Some (s 10)) high (Call.At (s 9) (Timed.Accelerations (pos 1000000000) (pos 0) (pos 0)))
     ∷ []
 
 abbrev timed : Timed → List ℕ
 timed t =
-    refusal (s (2 ^ 33)) (At (s 1)) high (Call.At far t)
-    ∷ refusal (s 9) (At (s 1)) high (Call.At (s 8) t)
-    ∷ refusal (s 9) (At (s 9)) high (Call.At (s 9) t)
-    ∷ refusal (s 9) (At (s 10)) high (Call.At (s 9) t)
-    ∷ refusal (s 9) Never high (Call.At (s 9) t)
+    refusal (s (2 ^ 33)) (Some (s 1)) high (Call.At far t)
+    ∷ refusal (s 9) (Some (s 1)) high (Call.At (s 8) t)
+    ∷ refusal (s 9) (Some (s 9)) high (Call.At (s 9) t)
+    ∷ refusal (s 9) (Some (s 10)) high (Call.At (s 9) t)
+    ∷ refusal (s 9) None high (Call.At (s 9) t)
     ∷ []
 
 -- a pin report from these levels, where both were high after the last accepted one
@@ -87,13 +86,13 @@ report before = Timed.Pins before high
 
 abbrev pin_reports : List ℕ
 pin_reports =
-    refusal (s (2 ^ 33)) (At (s 1)) high (Call.At far (report (levels false false)))
-    ∷ refusal (s 9) (At (s 1)) high (Call.At (s 8) (report (levels false false)))
-    ∷ refusal (s 9) (At (s 9)) high (Call.At (s 9) (report (levels false true)))
-    ∷ refusal (s 9) (At (s 9)) high (Call.At (s 9) (report (levels true false)))
-    ∷ refusal (s 9) (At (s 9)) high (Call.At (s 9) (report high))
-    ∷ refusal (s 9) (At (s 10)) high (Call.At (s 9) (report high))
-    ∷ refusal (s 9) Never high (Call.At (s 9) (report high))
+    refusal (s (2 ^ 33)) (Some (s 1)) high (Call.At far (report (levels false false)))
+    ∷ refusal (s 9) (Some (s 1)) high (Call.At (s 8) (report (levels false false)))
+    ∷ refusal (s 9) (Some (s 9)) high (Call.At (s 9) (report (levels false true)))
+    ∷ refusal (s 9) (Some (s 9)) high (Call.At (s 9) (report (levels true false)))
+    ∷ refusal (s 9) (Some (s 9)) high (Call.At (s 9) (report high))
+    ∷ refusal (s 9) (Some (s 10)) high (Call.At (s 9) (report high))
+    ∷ refusal (s 9) None high (Call.At (s 9) (report high))
     ∷ []
 
 pub record Ordered : Type 0 where

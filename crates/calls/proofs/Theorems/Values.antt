@@ -1,8 +1,7 @@
 -- The number fixes what a call answers.
-use Rattle.std.specs.Prelude.{ℕ, ◌≡◌, refl, false, cond, eqb}
+use Rattle.std.specs.Prelude.{ℕ, ◌≡◌, refl, false, cond, eqb, Result, Ok, Err}
 use Rattle.std.proofs.Common.{sym, ap, ◌∙◌}
 use Rattle.calls.specs.declared.types.Refusal.{Refusal}
-use Rattle.calls.specs.declared.types.Outcome.{Outcome}
 use Rattle.calls.specs.Table.{refusal_number, number}
 
 -- the refusal that has a number, and what is answered with one
@@ -16,23 +15,23 @@ refusal n =
     (cond (eqb n 6) Refusal.NotDue
     (cond (eqb n 7) Refusal.Command (cond (eqb n 8) Refusal.PinJump Refusal.ReservedCode)))))))
 
-abbrev outcome : ℕ → Outcome
-outcome n = cond (eqb n 0) Outcome.Accepted (Outcome.Refused (refusal n))
+abbrev outcome : ℕ → Result (Unit {0}) Refusal
+outcome n = cond (eqb n 0) (Ok tt) (Err (refusal n))
 
-outcome_number : (o : Outcome) → outcome (number o) ≡ o
+outcome_number : (o : Result (Unit {0}) Refusal) → outcome (number o) ≡ o
 unfolding number refusal_number
-outcome_number Outcome.Accepted = refl
-outcome_number (Outcome.Refused Refusal.ImageLength) = refl
-outcome_number (Outcome.Refused Refusal.AxisRange) = refl
-outcome_number (Outcome.Refused Refusal.TimeLimit) = refl
-outcome_number (Outcome.Refused Refusal.TimeBack) = refl
-outcome_number (Outcome.Refused Refusal.DueFirst) = refl
-outcome_number (Outcome.Refused Refusal.NotDue) = refl
-outcome_number (Outcome.Refused Refusal.Command) = refl
-outcome_number (Outcome.Refused Refusal.PinJump) = refl
-outcome_number (Outcome.Refused Refusal.ReservedCode) = refl
+outcome_number (Ok _) = refl
+outcome_number (Err Refusal.ImageLength) = refl
+outcome_number (Err Refusal.AxisRange) = refl
+outcome_number (Err Refusal.TimeLimit) = refl
+outcome_number (Err Refusal.TimeBack) = refl
+outcome_number (Err Refusal.DueFirst) = refl
+outcome_number (Err Refusal.NotDue) = refl
+outcome_number (Err Refusal.Command) = refl
+outcome_number (Err Refusal.PinJump) = refl
+outcome_number (Err Refusal.ReservedCode) = refl
 
-pub number_injective : (a b : Outcome) → number a ≡ number b → a ≡ b
+pub number_injective : (a b : Result (Unit {0}) Refusal) → number a ≡ number b → a ≡ b
 number_injective a b p = sym (outcome_number a) ∙ ap outcome p ∙ outcome_number b
 
 -- no refusal has the number 0

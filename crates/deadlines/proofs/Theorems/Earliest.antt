@@ -1,5 +1,5 @@
 -- The earliest deadline is one of the list, at or before each, and none only where no one is set.
-use Rattle.std.specs.Prelude.{◌≡◌, refl, Bool, cond, not, ◌⊎◌, ℕ, leb, ltb}
+use Rattle.std.specs.Prelude.{◌≡◌, refl, Bool, cond, not, ◌⊎◌, ℕ, leb, ltb, Option, Some, None}
 use Rattle.std.proofs.Common.{sym, inl, inr, ⊎_elim, arith}
 use Rattle.std.proofs.Math.Bool.{true, false}
 use mathlib.Core.List.Memᴰ
@@ -7,18 +7,12 @@ use mathlib.Core.List.{List, [], ◌∷◌, Memᴰ}
 use borrow.Author.Tests.{ltb-true, ltb-false, le-leb, lt-leb, leb-true}
 use Rattle.time.specs.declared.Time.{Time}
 use Rattle.time.specs.Time.{ticks, precedes}
-use Rattle.deadlines.specs.declared.Deadline.{Deadline}
-use Rattle.deadlines.specs.declared.Deadline.TheVariants.{At, Never}
 use Rattle.deadlines.specs.declared.Deadlines.{Deadlines}
 use Rattle.deadlines.specs.Deadlines.{moment, is_by, sooner, waits, first, earliest}
 
 -- the values of a deadline fix it
-pub moment_injective : (d e : Deadline) → moment d ≡ moment e → d ≡ e
-unfolding moment
-moment_injective (At t) (At u) p = cc
-moment_injective (At t) Never p = cc
-moment_injective Never (At u) p = cc
-moment_injective Never Never p = refl
+pub moment_injective : (d e : Option Time) → moment d ≡ moment e → d ≡ e
+moment_injective d e p = p
 
 -- what is not after a number is at or before it
 pub not_ltb : (a b : ℕ) → not (ltb a b) ≡ leb b a
@@ -31,97 +25,97 @@ not_ltb a b = go (ltb a b) refl
 -- ---- the sooner of two
 
 -- none is never sooner
-pub sooner_never : (d : Deadline) → sooner d Never ≡ d
+pub sooner_never : (d : Option Time) → sooner d None ≡ d
 unfolding sooner
-sooner_never (At t) = refl
-sooner_never Never = refl
+sooner_never (Some t) = refl
+sooner_never None = refl
 
 -- it is the one or the other
-sooner_one : (d e : Deadline) → (sooner d e ≡ d) ⊎ (sooner d e ≡ e)
+sooner_one : (d e : Option Time) → (sooner d e ≡ d) ⊎ (sooner d e ≡ e)
 unfolding sooner
-sooner_one Never e = inr refl
-sooner_one (At t) Never = inl refl
-sooner_one (At t) (At u) = chosen (precedes u t)
+sooner_one None e = inr refl
+sooner_one (Some t) None = inl refl
+sooner_one (Some t) (Some u) = chosen (precedes u t)
   where
-    chosen : (b : Bool) → (cond b (At u) (At t) ≡ At t) ⊎ (cond b (At u) (At t) ≡ At u)
+    chosen : (b : Bool) → (cond b (Some u) (Some t) ≡ Some t) ⊎ (cond b (Some u) (Some t) ≡ Some u)
     chosen true = inr refl
     chosen false = inl refl
 
 -- it is at or before each that is set
 module _ (t u : Time) where
-  by_both : (b : Bool) → precedes u t ≡ b → (is_by (cond b (At u) (At t)) t ≡ true) × (is_by (cond b (At u) (At t)) u ≡ true)
+  by_both : (b : Bool) → precedes u t ≡ b → (is_by (cond b (Some u) (Some t)) t ≡ true) × (is_by (cond b (Some u) (Some t)) u ≡ true)
   unfolding is_by
   by_both true e = (le-leb (ticks u) (ticks t) (omega (arith, ltb-true (ticks u) (ticks t) e)), le-leb (ticks u) (ticks u) (omega arith))
   by_both false e = (le-leb (ticks t) (ticks t) (omega arith), le-leb (ticks t) (ticks u) (ltb-false (ticks u) (ticks t) e))
 
-never_by : (d : Deadline) (t : Time) → d ≡ Never → is_by d t ≡ true → ⊥
+never_by : (d : Option Time) (t : Time) → d ≡ None → is_by d t ≡ true → ⊥
 unfolding is_by
-never_by (At u) t p q = let z : ◌≡◌ {A = ℕ} 0 1 = cc in omega arith
-never_by Never t p q = let z : ◌≡◌ {A = ℕ} 0 1 = cc in omega arith
+never_by (Some u) t p q = let z : ◌≡◌ {A = ℕ} 0 1 = cc in omega arith
+never_by None t p q = let z : ◌≡◌ {A = ℕ} 0 1 = cc in omega arith
 
-by_itself : (t : Time) → is_by (At t) t ≡ true
+by_itself : (t : Time) → is_by (Some t) t ≡ true
 unfolding is_by
 by_itself t = le-leb (ticks t) (ticks t) (omega arith)
 
-by_later : (d : Deadline) (u v : Time) → is_by d u ≡ true → is_by (At u) v ≡ true → is_by d v ≡ true
+by_later : (d : Option Time) (u v : Time) → is_by d u ≡ true → is_by (Some u) v ≡ true → is_by d v ≡ true
 unfolding is_by
-by_later Never u v p q = p
-by_later (At t) u v p q =
+by_later None u v p q = p
+by_later (Some t) u v p q =
     le-leb (ticks t) (ticks v) (omega (arith, leb-true (ticks t) (ticks u) p, leb-true (ticks u) (ticks v) q))
 
-sooner_by_left : (t : Time) (e : Deadline) → is_by (sooner (At t) e) t ≡ true
+sooner_by_left : (t : Time) (e : Option Time) → is_by (sooner (Some t) e) t ≡ true
 unfolding sooner
-sooner_by_left t Never = by_itself t
-sooner_by_left t (At u) = (by_both t u (precedes u t) refl).0
+sooner_by_left t None = by_itself t
+sooner_by_left t (Some u) = (by_both t u (precedes u t) refl).0
 
-sooner_by_right : (d e : Deadline) (v : Time) → is_by e v ≡ true → is_by (sooner d e) v ≡ true
+sooner_by_right : (d e : Option Time) (v : Time) → is_by e v ≡ true → is_by (sooner d e) v ≡ true
 unfolding sooner
-sooner_by_right Never e v p = p
-sooner_by_right (At t) Never v p = absurd (never_by Never v refl p)
-sooner_by_right (At t) (At u) v p = by_later _ u v (by_both t u (precedes u t) refl).1 p
+sooner_by_right None e v p = p
+sooner_by_right (Some t) None v p = absurd (never_by None v refl p)
+sooner_by_right (Some t) (Some u) v p = by_later _ u v (by_both t u (precedes u t) refl).1 p
 
 -- ---- the first of a list
 
 -- it is one of it
-pub first_is_one : (d : Deadline) (ds : List Deadline) → Memᴰ (first (d ∷ ds)) (d ∷ ds)
+pub first_is_one : (d : Option Time) (ds : List (Option Time)) → Memᴰ (first (d ∷ ds)) (d ∷ ds)
 unfolding first
 first_is_one d [] = Memᴰ.head (sooner_never d)
 first_is_one d (e ∷ ds) =
     ⊎_elim (λ p. Memᴰ.head p) (λ p. Memᴰ.tail (Memᴰ.cast p (first_is_one e ds))) (sooner_one d (first (e ∷ ds)))
 
 -- it is at or before each that is set
-pub first_by_each : (ds : List Deadline) (t : Time) → Memᴰ (At t) ds → is_by (first ds) t ≡ true
+pub first_by_each : (ds : List (Option Time)) (t : Time) → Memᴰ (Some t) ds → is_by (first ds) t ≡ true
 unfolding first
 first_by_each [] t m = absurd (Memᴰ.not-nil m)
 first_by_each (d ∷ ds) t m =
     ⊎_elim (λ p. rw (← p) (sooner_by_left t (first ds))) (λ n. sooner_by_right d (first ds) t (first_by_each ds t n)) (Memᴰ.cases_cons m)
 
 -- it is none where each is none
-pub first_never : (ds : List Deadline) → ((d : Deadline) → Memᴰ d ds → d ≡ Never) → first ds ≡ Never
+pub first_never : (ds : List (Option Time)) → ((d : Option Time) → Memᴰ d ds → d ≡ None) → first ds ≡ None
 unfolding first
 first_never [] h = refl
 first_never (d ∷ ds) h =
-    rw (h d (Memᴰ.head refl), first_never ds (λ e m. h e (Memᴰ.tail m))) (sooner_never Never)
+    rw (h d (Memᴰ.head refl), first_never ds (λ e m. h e (Memᴰ.tail m))) (sooner_never None)
 
 -- each is none where it is none
-pub never_first : (ds : List Deadline) → first ds ≡ Never → (d : Deadline) → Memᴰ d ds → d ≡ Never
-never_first ds p Never m = refl
-never_first ds p (At t) m = absurd (never_by (first ds) t p (first_by_each ds t m))
+pub never_first : (ds : List (Option Time)) → first ds ≡ None → (d : Option Time) → Memᴰ d ds → d ≡ None
+never_first ds p None m = refl
+never_first ds p (Some t) m = absurd (never_by (first ds) t p (first_by_each ds t m))
 
 -- ---- the earliest
-module _ (s : Deadlines) (sample write : Deadline) where
+module _ (s : Deadlines) (sample write : Option Time) where
   -- it is one of the eight
   pub earliest_is_one : Memᴰ (earliest s sample write) (waits s sample write)
   unfolding earliest
   earliest_is_one = first_is_one _ _
 
   -- it is at or before each of them that is set
-  pub earliest_by_each : (t : Time) → Memᴰ (At t) (waits s sample write) → is_by (earliest s sample write) t ≡ true
+  pub earliest_by_each : (t : Time) → Memᴰ (Some t) (waits s sample write) → is_by (earliest s sample write) t ≡ true
   unfolding earliest
   earliest_by_each t m = first_by_each _ t m
 
   -- it is none if and only if each of them is none
-  pub earliest_never : (earliest s sample write ≡ Never → (d : Deadline) → Memᴰ d (waits s sample write) → d ≡ Never)
-      × (((d : Deadline) → Memᴰ d (waits s sample write) → d ≡ Never) → earliest s sample write ≡ Never)
+  pub earliest_never : (earliest s sample write ≡ None → (d : Option Time) → Memᴰ d (waits s sample write) → d ≡ None)
+      × (((d : Option Time) → Memᴰ d (waits s sample write) → d ≡ None) → earliest s sample write ≡ None)
   unfolding earliest
   earliest_never = (never_first _, first_never _)

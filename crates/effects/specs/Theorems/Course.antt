@@ -2,7 +2,7 @@
 use Prim.Native.Nat.{ℕ, zero, suc, ◌/◌, ◌<◌}
 use Rattle.std.proofs.Common.{arith, sym, subst, ◌∙◌, length-append, get_or-set_same, get_or-set_other, get_or-take, length-take-le, leb-false, eqb-true}
 use Rattle.std.proofs.Math.Path.{◌≡◌, refl, ap}
-use Rattle.std.specs.Prelude.{Bool, true, false, cond, ◌⊎◌, leb, eqb, ℤ, set, take, replicate}
+use Rattle.std.specs.Prelude.{Bool, true, false, cond, ◌⊎◌, leb, eqb, ℤ, set, take, replicate, Option, Some, None}
 use Rattle.std.proofs.Math.Logic.{inl, inr}
 use mathlib.Core.List.{List, [], ◌∷◌, ◌++◌}
 use Rattle.std.proofs.Math.ListN.{length, get_or, length-set, get_or-append}
@@ -18,8 +18,6 @@ use Rattle.registers.specs.Map.{at, acc_lsb, acc_msb, status, measurement, contr
 use Rattle.registers.specs.Codes.{code_low, code_high}
 use Rattle.registers.specs.Access.{unwritable, ignores}
 use Rattle.sampling.specs.declared.types.Input.{Input}
-use Rattle.sampling.specs.declared.types.Test.{Test}
-use Rattle.sampling.specs.declared.types.Test.TheVariants.{Off, Phases}
 use Rattle.sampling.specs.declared.types.Acquisition.{Acquisition}
 use Rattle.sampling.specs.declared.types.Sampling.{Sampling}
 use Rattle.sampling.specs.Phase as Phase
@@ -146,33 +144,33 @@ module _ (c : Acquisition) (input : Input) (needs : List ℕ) where
 
   -- an edge samples one axis or none
   pub Edge : Type 0
-  Edge = Passed c after ⊎ (axis : ℕ) × (next_phase c ≡ suc axis) × (c.sampling.test ≡ Off) × Sampled c after axis (converts c input axis)
+  Edge = Passed c after ⊎ (axis : ℕ) × (next_phase c ≡ suc axis) × (c.sampling.test ≡ None) × Sampled c after axis (converts c input axis)
 
-  by_phase : (n : ℕ) → next_phase c ≡ n → c.sampling.test ≡ Off → Edge
+  by_phase : (n : ℕ) → next_phase c ≡ n → c.sampling.test ≡ None → Edge
   unfolding Edge
   by_phase zero p e = inl (marks.temperature c input needs p)
   by_phase (suc axis) p e = inr (axis, p, e, marks.phase c input needs axis p e)
 
-  by_test : (t : Test) → c.sampling.test ≡ t → Edge
+  by_test : (t : Option ℕ) → c.sampling.test ≡ t → Edge
   unfolding Edge
-  by_test Off e = by_phase (next_phase c) refl e
-  by_test (Phases left) e = inl (marks.self_test c input needs left e)
+  by_test None e = by_phase (next_phase c) refl e
+  by_test (Some left) e = inl (marks.self_test c input needs left e)
 
   pub an_edge : Edge
   an_edge = by_test c.sampling.test refl
 
   -- the registers keep their number
-  size_by_phase : (n : ℕ) → next_phase c ≡ n → c.sampling.test ≡ Off → size_of after ≡ size_of c
+  size_by_phase : (n : ℕ) → next_phase c ≡ n → c.sampling.test ≡ None → size_of after ≡ size_of c
   unfolding Phase.sample
   size_by_phase zero p e = ticked_same size_of (λ k i. refl) (λ k. refl) input needs _ ∙ phase_warms size_of (λ k i. refl) (λ k. refl) input needs d p ∙ length-set c.registers _ _
   size_by_phase (suc axis) p e =
       ticked_same size_of (λ k i. refl) (λ k. refl) input needs _ ∙ phase_measures size_of (λ k i. refl) (λ k. refl) input needs d axis p e
       ∙ length-set (set c.registers _ _) _ _ ∙ length-set c.registers _ _
 
-  size_by_test : (t : Test) → c.sampling.test ≡ t → size_of after ≡ size_of c
+  size_by_test : (t : Option ℕ) → c.sampling.test ≡ t → size_of after ≡ size_of c
   unfolding Phase.sample
-  size_by_test Off e = size_by_phase (next_phase c) refl e
-  size_by_test (Phases left) e =
+  size_by_test None e = size_by_phase (next_phase c) refl e
+  size_by_test (Some left) e =
       ticked_same size_of (λ k i. refl) (λ k. refl) input needs _
       ∙ phase_tests size_of (λ k i. refl) (λ k. refl) input needs d left e (length-set c.registers _ _) refl (length-set (set c.registers _ _) _ _ ∙ length-set c.registers _ _)
 

@@ -1,7 +1,8 @@
 -- The wire mode and the SPI driver: what leaves them as they are.
+use Rattle.sensor.specs.Operation.{Operation}
 use Prim.Native.Nat.{ℕ, zero, suc, ◌-◌, ◌<◌}
 use Rattle.std.proofs.Common.{arith, ap, ◌∙◌, get_or-set_other}
-use Rattle.std.specs.Prelude.{◌≡◌, Bool, cond, ◌&&◌, set, ℤ}
+use Rattle.std.specs.Prelude.{◌≡◌, Bool, cond, ◌&&◌, set, ℤ, Option, Some, None}
 use Rattle.std.proofs.Math.Path.{refl}
 use Rattle.std.proofs.Math.Bool.{true, false}
 use mathlib.Core.List.{List}
@@ -23,11 +24,8 @@ use Rattle.control.specs.declared.types.Sleep.{Sleep}
 use Rattle.control.specs.Automatic.{holds, pauses_again}
 use Rattle.control.specs.Kinds as Kinds
 use Rattle.sampling.specs.declared.types.Input.{Input}
-use Rattle.sampling.specs.declared.types.Test.{Test}
-use Rattle.sampling.specs.declared.types.Test.TheVariants.{Off, Phases}
 use Rattle.sampling.specs.declared.types.Acquisition.{Acquisition}
 use Rattle.sampling.specs.Phase as Phase
-use Rattle.sensor.specs.declared.types.Operation.{Operation}
 use Rattle.sensor.specs.declared.types.Sensor.{Sensor}
 use Rattle.sensor.specs.Record.{put, automatic}
 use Rattle.sensor.specs.Mode.{criterion, may_sleep, pause_restarted, interrupt_held, pause_if_idle, automatic_control}
@@ -67,12 +65,12 @@ module _ (input : Input) (needs : List ℕ) where
       elsewhere (set r control x) status (with_st_result (at r status)) (λ h. absurd (omega (arith, h))) ∙ elsewhere r control x (λ h. absurd (omega (arith, h)))
   test_keeps c false = refl
 
-  axis_keeps : (t : Test) (c : Acquisition) (phase : ℕ) → phase < 4 → mode (Phase.axis_phase t c input phase needs) ≡ mode c
+  axis_keeps : (t : Option ℕ) (c : Acquisition) (phase : ℕ) → phase < 4 → mode (Phase.axis_phase t c input phase needs) ≡ mode c
   unfolding Phase.axis_phase
-  axis_keeps Off c phase small =
+  axis_keeps None c phase small =
       scanned_keeps (Phase.measured c input (phase - 1)) (phase - 1) (eqb (phase - 1) 2) refl
       ∙ code_keeps c.registers (phase - 1) (answered c.sampling.filter (phase - 1) (Phase.converted c.registers (A.value (Phase.lagged c input (phase - 1))) (phase - 1))) (omega arith)
-  axis_keeps (Phases left) c phase small = test_keeps c (eqb phase 3 && eqb left 0)
+  axis_keeps (Some left) c phase small = test_keeps c (eqb phase 3 && eqb left 0)
 
   phase_keeps : (c : Acquisition) (t : Bool) → eqb (Phase.phase_of c.sampling.clock.ordinal) 0 ≡ t → mode (Phase.sample_phase c input needs) ≡ mode c
   unfolding Phase.sample_phase
@@ -374,10 +372,10 @@ paused_driver s now false e = rw e
 
 over_driver : (o : Operation) (s : Sensor) (now : Time) → (write_ended o s now).sensor.frame.driven ≡ s.frame.driven
 unfolding write_ended
-over_driver Operation.Idle s now = refl
-over_driver (Operation.Running w a v) s now = by (same (Cycle.deadline w) now) refl
+over_driver None s now = refl
+over_driver (Some (w, a, v)) s now = by (same (Cycle.deadline w) now) refl
   where
-    by : (b : Bool) → same (Cycle.deadline w) now ≡ b → (write_ended (Operation.Running w a v) s now).sensor.frame.driven ≡ s.frame.driven
+    by : (b : Bool) → same (Cycle.deadline w) now ≡ b → (write_ended (Some (w, a, v)) s now).sensor.frame.driven ≡ s.frame.driven
     by true e = rw e
     by false e = rw e
 
@@ -402,7 +400,7 @@ module _ (s : Sensor) (now : Time) where
   p = pause_ended (waits_ended s now) now
 
   abbrev w : Sensor
-  w = (write_ended p.writing.operation p now).sensor
+  w = (write_ended p.writing p now).sensor
 
   abbrev i : Sensor
   i = image_ended w now
@@ -415,7 +413,7 @@ module _ (s : Sensor) (now : Time) where
       sampled_driver k now (sample_due_now k now) refl
       ∙ woken_driver i now (is_at i.deadlines.wake now) refl
       ∙ loaded_driver w now (is_at w.deadlines.image now) refl
-      ∙ over_driver p.writing.operation p now
+      ∙ over_driver p.writing p now
       ∙ paused_driver (waits_ended s now) now (is_at (waits_ended s now).deadlines.pause now) refl
 
   pub due_fades : Fades s (at_deadline s now).sensor

@@ -1,13 +1,11 @@
 -- What samples, reads, waits and ordinary register writes leave as it is.
-use Rattle.std.specs.Prelude.{ℕ, refl, Bool, true, false, cond, not, ◌&&◌, eqb}
+use Rattle.std.specs.Prelude.{ℕ, refl, Bool, true, false, cond, not, ◌&&◌, eqb, Option, Some, None}
 use Rattle.std.proofs.Common.{◌∙◌}
 use Rattle.time.specs.declared.Time.{Time}
 use Rattle.i2c.specs.declared.types.Edge.{Edge}
-use Rattle.spi.specs.declared.types.Sent.{Sent}
 use Rattle.control.specs.declared.types.WriteKind.{WriteKind}
 use Rattle.control.specs.declared.types.SelfTest.{SelfTest}
 use Rattle.control.specs.declared.types.Sleep.{Sleep}
-use Rattle.sensor.specs.declared.types.View.{View}
 use Rattle.sensor.specs.declared.types.Sensor.{Sensor}
 use Rattle.deadlines.specs.Deadlines.{is_set, is_at}
 use Rattle.control.specs.Automatic.{holds, pauses_again}
@@ -136,15 +134,15 @@ sync_keeps s end inclusive = pick (samples_on_demand s) (caught_up_keeps s end _
 
 -- ---- reads, select and the output
 
-pub fetched_keeps : (v : View) (s : Sensor) (address : ℕ) → Keeps s (fetched v s address).sensor
+pub fetched_keeps : (v : Option ℕ) (s : Sensor) (address : ℕ) → Keeps s (fetched v s address).sensor
 unfolding fetched
-fetched_keeps (View.Byte b) s address = record { same = refl }
-fetched_keeps View.Withheld s address = record { same = refl }
+fetched_keeps (Some b) s address = record { same = refl }
+fetched_keeps None s address = record { same = refl }
 
-pub byte_read_keeps : (t : Sent) (s : Sensor) (address : ℕ) → Keeps s (byte_read t s address)
+pub byte_read_keeps : (t : Option ℕ) (s : Sensor) (address : ℕ) → Keeps s (byte_read t s address)
 unfolding byte_read
-byte_read_keeps Sent.Nothing s address = itself s
-byte_read_keeps (Sent.Byte b) s address = pick (counts_as_read s address) (record { same = refl }) (itself s)
+byte_read_keeps None s address = itself s
+byte_read_keeps (Some b) s address = pick (counts_as_read s address) (record { same = refl }) (itself s)
 
 pub rise_synced_keeps : (s : Sensor) (now : Time) → Keeps s (rise_synced s now)
 unfolding rise_synced

@@ -1,12 +1,11 @@
 -- Values and marks at a start, a return, a reset, a wake and an edge of the sample clock.
-use Rattle.std.specs.Prelude.{ℕ, zero, suc, ◌+◌, ◌<◌, ◌≡◌, Bool, List}
+use Rattle.std.specs.Prelude.{ℕ, zero, suc, ◌+◌, ◌<◌, ◌≡◌, Bool, List, Some, None}
 use Rattle.std.proofs.Common.{arith, ◌∙◌, get_or-set_other}
 use Rattle.std.proofs.Math.Path.{refl}
 use Rattle.std.proofs.Math.ListN.{set}
 use Rattle.filter.specs.declared.Filter.{Filter}
 use Rattle.registers.specs.Map.{at, acc_lsb, acc_msb, temp, status, control, with_st_result, without_self_test_0}
 use Rattle.sampling.specs.declared.types.Input.{Input}
-use Rattle.sampling.specs.declared.types.Test.TheVariants.{Off, Phases}
 use Rattle.sampling.specs.declared.types.Acquisition.{Acquisition}
 use Rattle.sampling.specs.Phase as Phase
 use Rattle.sensor.specs.Image.{from_nonvolatile, power_on}
@@ -46,7 +45,7 @@ module _ (c : Acquisition) (input : Input) (needs : List ℕ) where
   abbrev d : Acquisition
   d = Phase.advanced c
 
-  sampled : (axis : ℕ) → next_phase c ≡ suc axis → c.sampling.test ≡ Off → Sampled c (Phase.sample input needs c) axis (converts c input axis)
+  sampled : (axis : ℕ) → next_phase c ≡ suc axis → c.sampling.test ≡ None → Sampled c (Phase.sample input needs c) axis (converts c input axis)
   unfolding Phase.sample
   sampled axis p e = record {
     registers = ticked_same registers_of (λ k i. refl) (λ k. refl) input needs _ ∙ phase_measures registers_of (λ k i. refl) (λ k. refl) input needs d axis p e;
@@ -65,7 +64,7 @@ module _ (c : Acquisition) (input : Input) (needs : List ℕ) where
       }
 
   -- while a self test runs, the registers that change are temp, and at its end 0a and 09
-  tested : (left : ℕ) → c.sampling.test ≡ Phases left → Passed c (Phase.sample input needs c)
+  tested : (left : ℕ) → c.sampling.test ≡ Some left → Passed c (Phase.sample input needs c)
   unfolding Phase.sample
   tested left e = record {
     values = λ axis q. ticked_same (shows axis) (λ k i. refl) (λ k. refl) input needs _

@@ -1,5 +1,6 @@
 -- When the stage moves, and when it is left alone (analog.rs as bma150.rs and bma150/control.rs call it): an equation for each.
-use Rattle.std.specs.Prelude.{ℕ, suc, ◌<◌, ◌≤◌, ◌≡◌, Bool, cond, List, eqb, ℤ}
+use Rattle.sensor.specs.Operation.{Operation}
+use Rattle.std.specs.Prelude.{ℕ, suc, ◌<◌, ◌≤◌, ◌≡◌, Bool, cond, List, eqb, ℤ, Some, None}
 use Rattle.std.proofs.Math.Path.{refl}
 use Rattle.std.proofs.Common.{ap, ◌∙◌, le-ltb, lt-ltb}
 use Rattle.std.proofs.Math.Bool.{true, false}
@@ -9,11 +10,9 @@ use Rattle.time.specs.Clock as Clock
 use Rattle.analog.specs.declared.types.Analog.{Analog}
 use Rattle.analog.specs.Axis as A
 use Rattle.sampling.specs.declared.types.Input.{Input}
-use Rattle.sampling.specs.declared.types.Test.TheVariants.{Off, Phases}
 use Rattle.sampling.specs.declared.types.Acquisition.{Acquisition}
 use Rattle.sampling.specs.Phase as Phase
 use Rattle.sampling.specs.Stage as Stage
-use Rattle.sensor.specs.declared.types.Operation.{Operation}
 use Rattle.sensor.specs.declared.types.Sensor.{Sensor}
 use Rattle.spi.specs.Frame as F
 use Rattle.sensor.specs.Record.{with_supply, is_off}
@@ -51,11 +50,11 @@ pub record Moves : Type 0 where
   pub rests_after_zero : (s : Sensor) (rail : ℕ) (now : Time) → 2400 ≤ rail → is_off s ≡ true → s.supply.cold ≡ true → stage (set_supply s rail now).sensor ≡ A.rest now
   pub reset : (s : Sensor) (now : Time) → stage (soft_reset s now) ≡ A.rest now
   -- ---- a phase of x, y or z advances its axis to the edge's moment, whatever the registers hold (so under self_test_1 too), and no other
-  pub phase : (c : Acquisition) (input : Input) (needs : List ℕ) (axis : ℕ) → Phase.phase_of c.sampling.clock.ordinal ≡ suc axis → c.sampling.test ≡ Off
+  pub phase : (c : Acquisition) (input : Input) (needs : List ℕ) (axis : ℕ) → Phase.phase_of c.sampling.clock.ordinal ≡ suc axis → c.sampling.test ≡ None
       → stage_of (Phase.sample_phase c input needs) ≡ A.with_axis (stage_of c) axis (A.advanced (A.axis_of (stage_of c) axis) (Clock.last c.sampling.clock) (Phase.axis_input input axis))
   -- that of the temperature moves none, and while a self test runs no phase does
   pub temperature : (c : Acquisition) (input : Input) (needs : List ℕ) → Phase.phase_of c.sampling.clock.ordinal ≡ 0 → stage_of (Phase.sample_phase c input needs) ≡ stage_of c
-  pub self_test : (c : Acquisition) (input : Input) (needs : List ℕ) (left : ℕ) → c.sampling.test ≡ Phases left → stage_of (Phase.sample_phase c input needs) ≡ stage_of c
+  pub self_test : (c : Acquisition) (input : Input) (needs : List ℕ) (left : ℕ) → c.sampling.test ≡ Some left → stage_of (Phase.sample_phase c input needs) ≡ stage_of c
   -- ---- a setting, with supply and awake: an axis that changes advances with the old acceleration, one that does not stays; else none moves
   pub set : (s : Sensor) (x y z : ℤ) (now : Time) → is_off s ≡ false → s.sampling.asleep ≡ false
       → stage (set_input s x y z now) ≡ record { x = A.turned (stage s).x now (x_of s) x; y = A.turned (stage s).y now (y_of s) y; z = A.turned (stage s).z now (z_of s) z }
@@ -77,13 +76,13 @@ pub record Moves : Type 0 where
 -- ---- phases
 
 module _ (c : Acquisition) (input : Input) (needs : List ℕ) where
-  axis_moves : (axis : ℕ) → Phase.phase_of c.sampling.clock.ordinal ≡ suc axis → c.sampling.test ≡ Off → stage_of (Phase.sample_phase c input needs) ≡ stage_of (Phase.measured c input axis)
+  axis_moves : (axis : ℕ) → Phase.phase_of c.sampling.clock.ordinal ≡ suc axis → c.sampling.test ≡ None → stage_of (Phase.sample_phase c input needs) ≡ stage_of (Phase.measured c input axis)
   axis_moves axis p e = phase_measures stage_of (λ d i. refl) (λ d. refl) input needs c axis p e
 
   temperature_stays : Phase.phase_of c.sampling.clock.ordinal ≡ 0 → stage_of (Phase.sample_phase c input needs) ≡ stage_of c
   temperature_stays p = phase_warms stage_of (λ d i. refl) (λ d. refl) input needs c p
 
-  test_stays : (left : ℕ) → c.sampling.test ≡ Phases left → stage_of (Phase.sample_phase c input needs) ≡ stage_of c
+  test_stays : (left : ℕ) → c.sampling.test ≡ Some left → stage_of (Phase.sample_phase c input needs) ≡ stage_of c
   test_stays left e = phase_tests stage_of (λ d i. refl) (λ d. refl) input needs c left e refl refl refl
 
 -- ---- settings
@@ -118,8 +117,8 @@ held_asleep s now e = rw e
 -- neither the cut of a write nor deselecting moves it
 cut_stays : (o : Operation) (s : Sensor) (now : Time) → stage (cut o s now).sensor ≡ stage s
 unfolding cut
-cut_stays Operation.Idle s now = refl
-cut_stays (Operation.Running w a v) s now = refl
+cut_stays None s now = refl
+cut_stays (Some (w, a, v)) s now = refl
 
 deselected : (s : Sensor) (b : Bool) → stage (selected_to s b) ≡ stage s
 unfolding selected_to
@@ -131,8 +130,8 @@ deselected s b = by (F.changes s.frame b)
 
 lost_stage : (s : Sensor) (now : Time) (cold : Bool) → stage (power_off s now cold).sensor ≡ stage (held s now)
 lost_stage s now cold =
-    let t = (cut s.writing.operation (held s now) now).sensor in
-    deselected t (may_select t false) ∙ cut_stays s.writing.operation (held s now) now
+    let t = (cut s.writing (held s now) now).sensor in
+    deselected t (may_select t false) ∙ cut_stays s.writing (held s now) now
 
 -- supply below 2400 mV, and not
 module _ (s : Sensor) (rail : ℕ) (now : Time) where

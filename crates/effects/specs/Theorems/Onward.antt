@@ -1,5 +1,5 @@
 -- What happens to a sensor at a moment leaves no axis of the stage ahead of it, where none was.
-use Rattle.std.specs.Prelude.{ℕ, ◌≤◌, ◌≡◌, refl, Bool, cond, ℤ}
+use Rattle.std.specs.Prelude.{ℕ, ◌≤◌, ◌≡◌, refl, Bool, cond, ℤ, Some, None}
 use Rattle.std.proofs.Common.{arith, eqb-true}
 use Rattle.std.proofs.Math.Bool.{true, false}
 use Rattle.laws.specs.Iterate.{iterate}
@@ -7,7 +7,6 @@ use Rattle.time.specs.declared.Time.{Time}
 use Rattle.time.specs.Time.{ticks}
 use Rattle.time.specs.Clock as C
 use Rattle.analog.specs.Axis as A
-use Rattle.deadlines.specs.declared.Deadline.TheVariants.{At, Never}
 use Rattle.deadlines.specs.Deadlines.{is_at}
 use Rattle.control.specs.Lengths.{needs}
 use Rattle.sampling.specs.Stage as Stage
@@ -33,7 +32,7 @@ module _ (now : Time) where
   unfolding next_sample is_at
   due_edge s e = go (samples_run s) e
     where
-      go : (b : Bool) → is_at (cond b (At (C.next s.sampling.clock)) Never) now ≡ true → ticks (C.next s.sampling.clock) ≤ ticks now
+      go : (b : Bool) → is_at (cond b (Some (C.next s.sampling.clock)) None) now ≡ true → ticks (C.next s.sampling.clock) ≤ ticks now
       go true q = le_of_eq (eqb-true _ _ q)
       go false q = never q
 

@@ -1,15 +1,13 @@
 -- What a phase leaves of an acquisition, for any part of it that neither the criteria nor the count of scans changes.
 use Prim.Native.Nat.{ℕ, suc, ◌-◌}
 use native.Mathlib.Omega.{arith}
-use Rattle.std.specs.Prelude.{◌≡◌, Bool, true, false, cond, ◌&&◌, List}
+use Rattle.std.specs.Prelude.{◌≡◌, Bool, true, false, cond, ◌&&◌, List, Option, Some, None}
 use Rattle.std.proofs.Math.Path.{refl}
 use Rattle.std.proofs.Common.{◌∙◌}
 use Rattle.std.proofs.Math.Dec.{eqb}
 use borrow.Author.Tests.{ne_eqb}
 use Rattle.interrupts.specs.declared.Interrupts.{Interrupts}
 use Rattle.sampling.specs.declared.types.Input.{Input}
-use Rattle.sampling.specs.declared.types.Test.{Test}
-use Rattle.sampling.specs.declared.types.Test.TheVariants.{Off, Phases}
 use Rattle.sampling.specs.declared.types.Acquisition.{Acquisition}
 use Rattle.sampling.specs.Phase as Phase
 
@@ -17,11 +15,11 @@ use Rattle.sampling.specs.Phase as Phase
 abbrev pub counted_down : Acquisition → Acquisition
 counted_down c = Phase.with_sampling c (Phase.with_test c.sampling (Phase.test_counted c.sampling.test))
 
-counted_off : (t : Test) → t ≡ Off → Phase.test_counted t ≡ Off
+counted_off : (t : Option ℕ) → t ≡ None → Phase.test_counted t ≡ None
 unfolding Phase.test_counted
 counted_off t e = rw e
 
-counted_on : (t : Test) (left : ℕ) → t ≡ Phases left → Phase.test_counted t ≡ Phases (Phase.one_less left)
+counted_on : (t : Option ℕ) (left : ℕ) → t ≡ Some left → Phase.test_counted t ≡ Some (Phase.one_less left)
 unfolding Phase.test_counted
 counted_on t left e = rw e
 
@@ -47,17 +45,17 @@ module _ {A : Type 0} (part : Acquisition → A)
     ticked_same c = either (Phase.ticks_now c) _ c c (interrupts_apart c _) refl
 
     -- a phase of an axis, without a self test and with one
-    axis_measures : (t : Test) (c : Acquisition) (axis : ℕ) → t ≡ Off → part (Phase.axis_phase t c input (suc axis) needs) ≡ part (Phase.measured c input axis)
+    axis_measures : (t : Option ℕ) (c : Acquisition) (axis : ℕ) → t ≡ None → part (Phase.axis_phase t c input (suc axis) needs) ≡ part (Phase.measured c input axis)
     unfolding Phase.axis_phase
     axis_measures t c axis e =
         let k : suc axis - 1 ≡ axis = omega arith in
         rw (e, k) (scanned_same (Phase.measured c input axis) axis)
 
-    axis_tests : (t : Test) (c : Acquisition) (left phase : ℕ) → t ≡ Phases left → part (Phase.test_ended c) ≡ part c → part (Phase.axis_phase t c input phase needs) ≡ part c
+    axis_tests : (t : Option ℕ) (c : Acquisition) (left phase : ℕ) → t ≡ Some left → part (Phase.test_ended c) ≡ part c → part (Phase.axis_phase t c input phase needs) ≡ part c
     unfolding Phase.axis_phase
     axis_tests t c left phase e q = rw e (either (eqb phase 3 && eqb left 0) _ c c q refl)
 
-    pub phase_measures : (c : Acquisition) (axis : ℕ) → Phase.phase_of c.sampling.clock.ordinal ≡ suc axis → c.sampling.test ≡ Off
+    pub phase_measures : (c : Acquisition) (axis : ℕ) → Phase.phase_of c.sampling.clock.ordinal ≡ suc axis → c.sampling.test ≡ None
         → part (Phase.sample_phase c input needs) ≡ part (Phase.measured (counted_down c) input axis)
     unfolding Phase.sample_phase
     phase_measures c axis p e = rw (p, ne_eqb (suc axis) 0 (λ h. absurd (omega (arith, h)))) (axis_measures (Phase.test_counted c.sampling.test) _ axis (counted_off _ e))
@@ -66,7 +64,7 @@ module _ {A : Type 0} (part : Acquisition → A)
     unfolding Phase.sample_phase
     phase_warms c p = rw p
 
-    pub phase_tests : (c : Acquisition) (left : ℕ) → c.sampling.test ≡ Phases left
+    pub phase_tests : (c : Acquisition) (left : ℕ) → c.sampling.test ≡ Some left
         → part (Phase.warmed (counted_down c) input) ≡ part c → part (counted_down c) ≡ part c → part (Phase.test_ended (counted_down c)) ≡ part (counted_down c)
         → part (Phase.sample_phase c input needs) ≡ part c
     unfolding Phase.sample_phase

@@ -2,7 +2,7 @@
 use Prim.Native.Nat.{ℕ, zero, suc, ◌+◌, ◌-◌, ◌*◌, ◌/◌, ◌%◌, ◌^◌, ◌≤◌, ◌<◌, min}
 use Rattle.std.proofs.Common.{add-zero, le_trans, mod-eq_of_lt, arith, sym, ◌∙◌, lit<}
 use Rattle.std.proofs.Math.Nat.{le_refl, min-le_left, mod-le}
-use Rattle.std.specs.Prelude.{◌≡◌, Bool, true, false, cond, ◌&&◌, List, ℤ}
+use Rattle.std.specs.Prelude.{◌≡◌, Bool, true, false, cond, ◌&&◌, List, ℤ, Option, Some, None}
 use Rattle.std.proofs.Math.Path.{ap, subst}
 use Rattle.std.proofs.Math.Dec.{eqb}
 use Rattle.laws.specs.Iterate.{iterate}
@@ -17,8 +17,6 @@ use Rattle.analog.specs.declared.types.Analog.{Analog}
 use Rattle.analog.specs.Axis as A
 use Rattle.analog.proofs.Theorems.Settles.{advanced_at}
 use Rattle.sampling.specs.declared.types.Input.{Input}
-use Rattle.sampling.specs.declared.types.Test.{Test}
-use Rattle.sampling.specs.declared.types.Test.TheVariants.{Off, Phases}
 use Rattle.sampling.specs.declared.types.Sampling.{Sampling}
 use Rattle.sampling.specs.declared.types.Acquisition.{Acquisition}
 use Rattle.sampling.specs.Phase as Phase
@@ -139,10 +137,10 @@ module _ (now : Time) where
           upto = with_axis_upto c.sampling.analog axis (Phase.lagged c input axis) h.upto (advanced_by (A.axis_of c.sampling.analog axis) (C.last c.sampling.clock) (Phase.axis_input input axis) l);
         }
 
-    axis_stands : {k : Clock} (t : Test) (c : Acquisition) (phase : ℕ) → ticks (C.last k) ≤ ticks now → Stands k c → Stands k (Phase.axis_phase t c input phase needs)
+    axis_stands : {k : Clock} (t : Option ℕ) (c : Acquisition) (phase : ℕ) → ticks (C.last k) ≤ ticks now → Stands k c → Stands k (Phase.axis_phase t c input phase needs)
     unfolding Phase.axis_phase
-    axis_stands Off c phase p h = scanned_stands (Phase.measured c input (phase - 1)) (phase - 1) (measured_stands c (phase - 1) p h)
-    axis_stands (Phases left) c phase p h = pick (eqb phase 3 && eqb left 0) (record { clock = h.clock; upto = h.upto }) h
+    axis_stands None c phase p h = scanned_stands (Phase.measured c input (phase - 1)) (phase - 1) (measured_stands c (phase - 1) p h)
+    axis_stands (Some left) c phase p h = pick (eqb phase 3 && eqb left 0) (record { clock = h.clock; upto = h.upto }) h
 
     phase_stands : {k : Clock} (c : Acquisition) → ticks (C.last k) ≤ ticks now → Stands k c → Stands k (Phase.sample_phase c input needs)
     unfolding Phase.sample_phase

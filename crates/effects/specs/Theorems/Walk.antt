@@ -1,5 +1,6 @@
 -- A relation that each step meets is met by all that a call does: samples, register writes, reads, edges, reports, due moments, supply.
-use Rattle.std.specs.Prelude.{ℕ, ◌≡◌, refl, Bool, true, cond, ◌&&◌, ltb, eqb}
+use Rattle.sensor.specs.Operation.{Operation}
+use Rattle.std.specs.Prelude.{ℕ, ◌≡◌, refl, Bool, true, cond, ◌&&◌, ltb, eqb, Option, Some, None}
 use Rattle.std.proofs.Math.Bool.{false, not}
 use Rattle.time.specs.declared.Time.{Time}
 use Rattle.time.specs.Time.{same, from_millis}
@@ -9,10 +10,7 @@ use Rattle.i2c.specs.declared.types.Edge.{Edge}
 use Rattle.i2c.specs.declared.types.Action.{Action}
 use Rattle.i2c.specs.Bus.{edge}
 use Rattle.i2c.specs.Engine as E
-use Rattle.spi.specs.declared.types.Sent.{Sent}
 use Rattle.spi.specs.declared.types.Clocked.{Clocked}
-use Rattle.spi.specs.declared.types.FirstBit.{FirstBit}
-use Rattle.spi.specs.declared.types.Write.{Write}
 use Rattle.spi.specs.declared.types.Shift.{Shift}
 use Rattle.spi.specs.Frame as F
 use Rattle.deadlines.specs.Deadlines.{is_set, is_at}
@@ -22,8 +20,6 @@ use Rattle.control.specs.declared.types.Sleep.{Sleep}
 use Rattle.control.specs.Automatic.{holds, pauses_again}
 use Rattle.control.specs.Kinds as Kinds
 use Rattle.registers.specs.Map.{at, operation, latch_INT}
-use Rattle.sensor.specs.declared.types.View.{View}
-use Rattle.sensor.specs.declared.types.Operation.{Operation}
 use Rattle.sensor.specs.declared.types.Sensor.{Sensor}
 use Rattle.sensor.specs.Record.{with_frame, is_off, serial_not_ready, is_quiet, automatic, four_wire}
 use Rattle.sensor.specs.Mode.{criterion, may_sleep, pause_restarted, interrupt_held, pause_if_idle, automatic_control}
@@ -125,15 +121,15 @@ module _ (now : Time) (R : Sensor → Sensor → Type 0) (p : Steps now R) where
 
   -- ---- reads, select and the output
 
-  fetched_meets : (v : View) (s : Sensor) (address : ℕ) → R s (fetched v s address).sensor
+  fetched_meets : (v : Option ℕ) (s : Sensor) (address : ℕ) → R s (fetched v s address).sensor
   unfolding fetched
-  fetched_meets (View.Byte b) s address = p.fetches s address b
-  fetched_meets View.Withheld s address = p.drops_read s
+  fetched_meets (Some b) s address = p.fetches s address b
+  fetched_meets None s address = p.drops_read s
 
-  byte_read_meets : (t : Sent) (s : Sensor) (address : ℕ) → R s (byte_read t s address)
+  byte_read_meets : (t : Option ℕ) (s : Sensor) (address : ℕ) → R s (byte_read t s address)
   unfolding byte_read
-  byte_read_meets Sent.Nothing s address = same_as s
-  byte_read_meets (Sent.Byte b) s address = choose (counts_as_read s address) (λ e. p.reads s address b e) (λ e. same_as s)
+  byte_read_meets None s address = same_as s
+  byte_read_meets (Some b) s address = choose (counts_as_read s address) (λ e. p.reads s address b e) (λ e. same_as s)
 
   pub select_meets : (s : Sensor) (selected : Bool) → R s (set_selected s selected)
   unfolding selected_to
@@ -154,10 +150,10 @@ module _ (now : Time) (R : Sensor → Sensor → Type 0) (p : Steps now R) where
   unfolding pause_ended
   pause_ended_meets s = choose (is_at s.deadlines.pause now) (λ e. p.acquires s (from_millis 1)) (λ e. same_as s)
 
-  write_ended_meets : (op : Operation) (s : Sensor) → s.writing.operation ≡ op → R s (write_ended op s now).sensor
+  write_ended_meets : (op : Operation) (s : Sensor) → s.writing ≡ op → R s (write_ended op s now).sensor
   unfolding write_ended
-  write_ended_meets Operation.Idle s o = same_as s
-  write_ended_meets (Operation.Running w a v) s o =
+  write_ended_meets None s o = same_as s
+  write_ended_meets (Some (w, a, v)) s o =
       chosen (completed s a v) (S.without_report s) (same (Cycle.deadline w) now) (λ e. p.then (p.completes s w a v o) (p.copies _)) (λ e. same_as s)
 
   image_ended_meets : (s : Sensor) → R s (image_ended s now)
@@ -178,24 +174,24 @@ module _ (now : Time) (R : Sensor → Sensor → Type 0) (p : Steps now R) where
   pub due_meets : (s : Sensor) → R s (at_deadline s now).sensor
   due_meets s =
       let q = pause_ended (waits_ended s now) now in
-      let w = (write_ended q.writing.operation q now).sensor in
+      let w = (write_ended q.writing q now).sensor in
       p.then (p.waits_end s)
       (p.then (pause_ended_meets (waits_ended s now))
-      (p.then (write_ended_meets q.writing.operation q refl)
+      (p.then (write_ended_meets q.writing q refl)
       (p.then (image_ended_meets w) (p.then (wake_ended_meets (image_ended w now)) (sample_meets (waits_served s now).sensor (criterion s) (hold_ends_now s now))))))
 
   -- ---- supply
 
-  cut_meets : (op : Operation) (s : Sensor) → s.writing.operation ≡ op → R s (S.cut op s now).sensor
+  cut_meets : (op : Operation) (s : Sensor) → s.writing ≡ op → R s (S.cut op s now).sensor
   unfolding S.cut
-  cut_meets Operation.Idle s o = same_as s
-  cut_meets (Operation.Running w a v) s o = p.cuts s w a v o
+  cut_meets None s o = same_as s
+  cut_meets (Some (w, a, v)) s o = p.cuts s w a v o
 
   off_meets : (s : Sensor) (cold : Bool) → R s (S.off s now cold)
   off_meets s cold = p.then (select_meets s false) (p.then (p.aborts _) (p.goes_off _ cold))
 
   power_off_meets : (s : Sensor) (cold : Bool) → R s (S.power_off s now cold).sensor
-  power_off_meets s cold = p.then (p.stops s) (p.then (cut_meets s.writing.operation (S.held s now) refl) (off_meets _ cold))
+  power_off_meets s cold = p.then (p.stops s) (p.then (cut_meets s.writing (S.held s now) refl) (off_meets _ cold))
 
   zero_meets : (s : Sensor) (cold : Bool) → is_off s ≡ true → R s (S.zero_while_off s cold)
   unfolding S.zero_while_off
@@ -244,15 +240,15 @@ module _ (now : Time) (R : Sensor → Sensor → Type 0) (p : Steps now R) where
   unfolding fall_synced
   fall_synced_meets s = choose (spi_listens s && F.consumes_at_fall s.frame (four_wire s)) (λ e. sync_meets s true) (λ e. same_as s)
 
-  first_bit_meets : (k : FirstBit) (s : Sensor) → R s (first_bit_taken k s)
+  first_bit_meets : (k : Option ℕ) (s : Sensor) → R s (first_bit_taken k s)
   unfolding first_bit_taken
-  first_bit_meets FirstBit.Nothing s = same_as s
-  first_bit_meets (FirstBit.Register a) s = byte_read_meets s.frame.tx s a
+  first_bit_meets None s = same_as s
+  first_bit_meets (Some a) s = byte_read_meets s.frame.tx s a
 
-  write_done_meets : (w : Write) (s : Sensor) → R s (write_done w s now)
+  write_done_meets : (w : Option (ℕ × ℕ)) (s : Sensor) → R s (write_done w s now)
   unfolding write_done
-  write_done_meets Write.Nothing s = same_as s
-  write_done_meets (Write.Register a v) s = register_meets s a v
+  write_done_meets None s = same_as s
+  write_done_meets (Some (a, v)) s = register_meets s a v
 
   bit_meets : (s : Sensor) (mosi : Bool) → R s (bit_taken s mosi now)
   bit_meets s mosi =
@@ -287,7 +283,7 @@ module _ (now : Time) (R : Sensor → Sensor → Type 0) (p : Steps now R) where
   acted_meets : (a : Action) (s : Sensor) → R s (acted a s now)
   unfolding acted
   acted_meets Action.Nothing s = same_as s
-  acted_meets Action.Drop s = p.then (p.sends s Sent.Nothing) (p.drops_read _)
+  acted_meets Action.Drop s = p.then (p.sends s None) (p.drops_read _)
   acted_meets (Action.Write r v) s = p.then (register_meets s r v) (p.acknowledges _)
   acted_meets (Action.Launch r) s =
       let f = fetched (peek s r) s r in

@@ -1,5 +1,6 @@
 -- The cut of a running write by 0 mV, the return, and the stored bytes right after it.
-use Rattle.std.specs.Prelude.{ℕ, ◌+◌, ◌-◌, ◌^◌, ◌<◌, ◌≤◌, ◌≡◌, refl, Bool, true, cond, List, [], ◌∷◌}
+use Rattle.sensor.specs.Operation.{Operation}
+use Rattle.std.specs.Prelude.{ℕ, ◌+◌, ◌-◌, ◌^◌, ◌<◌, ◌≤◌, ◌≡◌, refl, Bool, true, cond, List, [], ◌∷◌, Option, Some, None}
 use Rattle.std.proofs.Common.{le_refl, ◌∙◌, le-ltb}
 use Rattle.std.proofs.Math.Path.{ap}
 use Rattle.std.proofs.Math.Bool.{false}
@@ -7,15 +8,12 @@ use Rattle.time.specs.declared.Time.{Time}
 use Rattle.time.specs.Time.{ticks, precedes}
 use Rattle.nv.specs.Cell.{write_length, cell_number, byte}
 use Rattle.nv.specs.Cycle as Cycle
-use Rattle.deadlines.specs.declared.Deadline.{Deadline}
-use Rattle.deadlines.specs.declared.Deadline.TheVariants.{Never}
 use Rattle.deadlines.specs.Deadlines.{is_set, is_by}
 use Rattle.spi.specs.Frame as F
 use Rattle.calls.specs.declared.types.Timed.TheVariants as Timed
 use Rattle.calls.specs.declared.types.Call.{Call}
 use Rattle.calls.specs.Table as T
 use Rattle.calls.specs.Facts as TF
-use Rattle.sensor.specs.declared.types.Operation.{Operation}
 use Rattle.sensor.specs.declared.types.Sensor.{Sensor}
 use Rattle.sensor.specs.Record.{is_off}
 use Rattle.sensor.specs.Image.{cell_byte, with_cell, image_at, power_on}
@@ -52,7 +50,7 @@ off_dark : (s : Sensor) (now : Time) → Dark s.nonvolatile (off s now true)
 unfolding is_set
 off_dark s now = record { off = refl; cold = refl; cells = deselected s }
 
-zero_cuts : (s : Sensor) (now : Time) → is_off s ≡ false → (set_supply s 0 now).sensor ≡ off (cut s.writing.operation (Supply.held s now) now).sensor now true
+zero_cuts : (s : Sensor) (now : Time) → is_off s ≡ false → (set_supply s 0 now).sensor ≡ off (cut s.writing (Supply.held s now) now).sensor now true
 unfolding set_supply supply_low
 zero_cuts s now on = rw on
 
@@ -67,8 +65,8 @@ torn_cells t now image a x = with_cell image a (byte (cell_byte image a) x (cell
 
 module _ (t now : Time) {image : List ℕ} {selected : Bool} {a x : ℕ} {s : Sensor} (high : t.0 < 2 ^ 32) (low : t.1 < 2 ^ 64) (late : T.late now ≡ false)
     (since : ticks t ≤ ticks now) (within : ticks now < ticks t + write_length)
-    (h : Asleep image selected s) (running : s.writing.operation ≡ Operation.Running (Cycle.start t) a x) where
-  cells_torn : (cut s.writing.operation (Supply.held s now) now).sensor.nonvolatile ≡ torn_cells t now image a x
+    (h : Asleep image selected s) (running : s.writing ≡ Some (Cycle.start t, a, x)) where
+  cells_torn : (cut s.writing (Supply.held s now) now).sensor.nonvolatile ≡ torn_cells t now image a x
   unfolding cut
   cells_torn = rw (running, h.cells)
 
@@ -77,11 +75,11 @@ module _ (t now : Time) {image : List ℕ} {selected : Bool} {a x : ℕ} {s : Se
 
   -- the sensor that 0 mV leaves
   abbrev pub dark : Sensor
-  dark = off (cut s.writing.operation (Supply.held s now) now).sensor now true
+  dark = off (cut s.writing (Supply.held s now) now).sensor now true
 
   -- its cell is torn
   pub is_dark : Dark (torn_cells t now image a x) dark
-  is_dark = dark_as cells_torn (off_dark (cut s.writing.operation (Supply.held s now) now).sensor now)
+  is_dark = dark_as cells_torn (off_dark (cut s.writing (Supply.held s now) now).sensor now)
 
   -- the supply call of 0 mV is accepted
   pub cut_goes : Goes (host t s) (Call.At now (Timed.Supply 0) ∷ []) (host now dark)
@@ -93,7 +91,7 @@ module _ (t now : Time) {image : List ℕ} {selected : Bool} {a x : ℕ} {s : Se
 
 -- ---- the return, at the same moment
 module _ (now : Time) {image : List ℕ} {s : Sensor} (late : T.late now ≡ false) (h : Dark image s) where
-  undue : interaction_deadline s ≡ Never
+  undue : interaction_deadline s ≡ None
   unfolding next_deadline
   undue = rw h.off
 
@@ -107,7 +105,7 @@ module _ (now : Time) {image : List ℕ} {s : Sensor} (late : T.late now ≡ fal
   -- that of 2400 mV is accepted
   pub return_accepted : accepts (host now s) (Call.At now (Timed.Supply 2400)) ≡ true
   unfolding is_by
-  return_accepted = plain_accepted (host now s) now (Timed.Supply 2400) (supply_plain 2400) late not_back (ap (λ (d : Deadline). is_by d now) undue)
+  return_accepted = plain_accepted (host now s) now (Timed.Supply 2400) (supply_plain 2400) late not_back (ap (λ (d : Option Time). is_by d now) undue)
 
   returns_cold : (set_supply s 2400 now).sensor ≡ power_on s now
   unfolding set_supply supply_ok returned

@@ -1,5 +1,5 @@
 -- From the calls that begin a write to what is claimed: the cut, the return and the stored bytes.
-use Rattle.std.specs.Prelude.{ℕ, ◌^◌, ◌≡◌, refl, Bool, true, false, List, [], ◌∷◌, ◌++◌}
+use Rattle.std.specs.Prelude.{ℕ, ◌^◌, ◌≡◌, refl, Bool, true, false, List, [], ◌∷◌, ◌++◌, Some}
 use Rattle.std.proofs.Common.{ap, ◌∙◌}
 use borrow.Author.Tests.{lt-leb}
 use Rattle.time.specs.declared.Time.{Time}
@@ -7,7 +7,6 @@ use Rattle.nv.specs.Cycle as Cycle
 use Rattle.calls.specs.declared.types.Timed.TheVariants as Timed
 use Rattle.calls.specs.declared.types.Call.{Call}
 use Rattle.calls.specs.Table as T
-use Rattle.sensor.specs.declared.types.Operation.TheVariants as Operation
 use Rattle.sensor.specs.declared.types.Sensor.{Sensor}
 use Rattle.sensor.specs.Image.{power_on}
 use Rattle.bma150.specs.declared.host.Bma150.{Bma150}
@@ -34,7 +33,7 @@ pub record Begins (b : Start) (address value : ℕ) (cs : List Call) : Type 0 wh
   pub sensor : Sensor
   pub goes : Goes (started b) cs (host b.time sensor)
   pub asleep : Asleep b.image selected sensor
-  pub running : sensor.writing.operation ≡ Operation.Running (Cycle.start b.time) address value
+  pub running : sensor.writing ≡ Some (Cycle.start b.time, address, value)
   pub fits : Fractions cs
 
 module _ {b : Start} {a x : ℕ} {at : Time} {cs : List Call} (w : Wanted b a x at) (h : Begins b a x cs) where
@@ -69,7 +68,7 @@ module _ {b : Start} {a x : ℕ} {at : Time} {cs : List Call} (w : Wanted b a x 
   happens o = record {
     calls = cs;
     over = o;
-    begun = ap (λ (k : Bma150). k.sensor.writing.operation) h.goes.left ∙ h.running;
+    begun = ap (λ (k : Bma150). k.sensor.writing) h.goes.left ∙ h.running;
     all_accepted = to_cut.all;
     returns = all_returns;
     stored = ap (λ (k : Bma150). (called k (Call.StoredImage at 19)).adds) to_return.left ∙ image_handed_out at cut_in_time gone_dark;

@@ -1,5 +1,5 @@
 -- A sensor that stands still at a moment: with supply, its pins alive, no samples running and nothing due by then.
-use Rattle.std.specs.Prelude.{◌≡◌, refl, Bool, cond, ◌&&◌}
+use Rattle.std.specs.Prelude.{◌≡◌, refl, Bool, cond, ◌&&◌, Option, None}
 use Rattle.std.proofs.Math.Path.{ap}
 use Rattle.std.proofs.Math.Bool.{true, false, not}
 use Rattle.std.proofs.Common.{le_refl, le-ltb}
@@ -12,8 +12,6 @@ use Rattle.i2c.specs.declared.types.State.{State}
 use Rattle.spi.specs.declared.types.Frame.{Frame}
 use Rattle.spi.specs.Frame as F
 use Rattle.reads.specs.declared.Reads.{Reads}
-use Rattle.deadlines.specs.declared.Deadline.{Deadline}
-use Rattle.deadlines.specs.declared.Deadline.TheVariants.{Never}
 use Rattle.deadlines.specs.Deadlines.{is_set, is_by}
 use Rattle.calls.specs.declared.types.Timed.{Timed}
 use Rattle.calls.specs.declared.types.Call.TheVariants as Call
@@ -35,8 +33,8 @@ host last s = record { sensor = s; last = last }
 -- with supply, its pins neither dead nor quiet, no samples running, and next due later
 pub record Held (now : Time) (s : Sensor) : Type 0 where
   pub on : is_off s ≡ false
-  pub ready : s.deadlines.serial_ready ≡ Never
-  pub loud : s.deadlines.quiet ≡ Never
+  pub ready : s.deadlines.serial_ready ≡ None
+  pub loud : s.deadlines.quiet ≡ None
   pub unsampled : samples_run s ≡ false
   pub undue : is_by (interaction_deadline s) now ≡ false
 
@@ -55,7 +53,7 @@ unfolding samples_run next_sample sample_due next_deadline
 held_lines {now} {s} h l = record { on = h.on; ready = h.ready; loud = h.loud; unsampled = h.unsampled; undue = h.undue }
 
 -- no deadline is set
-pub never_set : {d : Deadline} → d ≡ Never → is_set d ≡ false
+pub never_set : {d : Option Time} → d ≡ None → is_set d ≡ false
 unfolding is_set
 never_set {d} e = rw e
 

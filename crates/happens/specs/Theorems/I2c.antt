@@ -1,8 +1,8 @@
 -- Every stored write happens over I2C: START, 70 hex and four pairs of register and value at the start's time.
-use Rattle.std.specs.Prelude.{ℕ, ◌^◌, ◌<◌, ◌≡◌, refl, Bool, true, false}
+use Rattle.sensor.specs.Operation.{Operation}
+use Rattle.std.specs.Prelude.{ℕ, ◌^◌, ◌<◌, ◌≡◌, refl, Bool, true, false, Option, Some, None}
 use Rattle.std.proofs.Common.{arith, sym, ap, subst, ◌∙◌, lit<}
 use mathlib.Core.List.{List, [], ◌∷◌, ◌++◌}
-use Rattle.std.proofs.Math.Option.{Option, some}
 use Rattle.laws.specs.Bytes.{sent_bit, seven_bits}
 use Rattle.time.specs.declared.Time.{Time}
 use Rattle.nv.specs.Cycle as Cycle
@@ -16,8 +16,6 @@ use Rattle.spi.specs.Frame as F
 use Rattle.calls.specs.declared.types.Call.{Call}
 use Rattle.calls.proofs.Theorems.Exactly.{same_whole}
 use Rattle.registers.specs.Map.{at, control, ee_w}
-use Rattle.sensor.specs.declared.types.Operation.{Operation}
-use Rattle.sensor.specs.declared.types.Writing.{Writing}
 use Rattle.sensor.specs.declared.types.Sensor.{Sensor}
 use Rattle.sensor.specs.Image.{from_nonvolatile}
 use Rattle.samples.specs.Samples.{write_end}
@@ -49,10 +47,10 @@ i2c_writes now a x = start_reports now ++ (byte_reports now 0x70 ++ pairs now a 
 
 -- the clock low, the data line at a level
 abbrev resting : (level : Bool) → Option Levels
-resting level = some (lines false level)
+resting level = Some (lines false level)
 
 -- a report from the levels that the lines have
-reported : (now : Time) (c d : Bool) (m : Levels) → moved i2c_call (some (lines c d)) (report now (lines c d) m) ≡ some m
+reported : (now : Time) (c d : Bool) (m : Levels) → moved i2c_call (Some (lines c d)) (report now (lines c d) m) ≡ Some m
 unfolding moved i2c_call i2c_report
 reported now c d m = rw (same_whole (lines c d) (lines c d) refl)
 
@@ -76,7 +74,7 @@ byte_course now b =
 pair_course : (now : Time) (r v : ℕ) → course i2c_call (pair_reports now r v) (resting false) ≡ resting false
 pair_course now r v = course_append i2c_call (byte_reports now r) (byte_reports now v) (resting false) (resting false) (resting false) (byte_course now r) (byte_course now v)
 
-start_course : (now : Time) → course i2c_call (start_reports now) (some (lines true true)) ≡ resting false
+start_course : (now : Time) → course i2c_call (start_reports now) (Some (lines true true)) ≡ resting false
 unfolding course moved i2c_call i2c_report
 start_course now = refl
 
@@ -127,10 +125,10 @@ module _ {b : Start} {a x : ℕ} {cut : Time} (w : Wanted b a x cut) where
   abbrev image : List ℕ
   image = b.image
 
-  held : {s : Sensor} → Awake t image false s → is_by (write_end s.writing.operation) t ≡ false → Held t s
+  held : {s : Sensor} → Awake t image false s → is_by (write_end s.writing) t ≡ false → Held t s
   held h e = awake_held (few_seconds w) (a_fraction w) h e
 
-  pair_left : {s : Sensor} → Awake t image false s → is_by (write_end s.writing.operation) t ≡ false → (p r v : ℕ) → r < 128 → v < 256
+  pair_left : {s : Sensor} → Awake t image false s → is_by (write_end s.writing) t ≡ false → (p r v : ℕ) → r < 128 → v < 256
       → let u = write_register (meets s r v) r v t in Held t u → u.frame ≡ F.fresh false → u.i2c ≡ engine P.Idle r 0 0
       → Goes (host t (on_bus s (receives R.Control p 0 0) (lines false false))) (pair_reports t r v) (host t (on_bus u (receives R.Control r 0 0) (lines false false)))
   pair_left {s} h e p r v lr lv g f i =
@@ -164,20 +162,20 @@ module _ {b : Start} {a x : ℕ} {cut : Time} (w : Wanted b a x cut) where
   h2 : Manual t image false (meets s1 0x0a 0x10) s2 × (s2.writing ≡ s1.writing) × (ee_w (at s2.registers control) ≡ true)
   h2 = ee_w_written (awake_engine h1.0.awake _ _) h1.0.manual
 
-  idle1 : s1.writing.operation ≡ Operation.Idle
-  idle1 = ap (λ (o : Writing). o.operation) h1.1
+  idle1 : s1.writing ≡ None
+  idle1 = ap (λ (o : Operation). o.operation) h1.1
 
-  idle2 : s2.writing.operation ≡ Operation.Idle
-  idle2 = ap (λ (o : Writing). o.operation) h2.1 ∙ idle1
+  idle2 : s2.writing ≡ None
+  idle2 = ap (λ (o : Operation). o.operation) h2.1 ∙ idle1
 
-  h3 : Manual t image false (meets s2 a x) s3 × (s3.writing.operation ≡ Operation.Running (Cycle.start t) a x)
+  h3 : Manual t image false (meets s2 a x) s3 × (s3.writing ≡ Some (Cycle.start t, a, x))
   h3 = stored_written (awake_engine h2.0.awake _ _) h2.0.manual h2.2 idle2 a x w.first_cell w.last_cell
 
   h4 : Asleep image false s4 × (s4.writing ≡ s3.writing) × (s4.i2c ≡ engine P.Idle 0x0a 0 0)
   h4 = sleep_written (awake_engine h3.0.awake _ _) h3.0.manual
 
-  running4 : s4.writing.operation ≡ Operation.Running (Cycle.start t) a x
-  running4 = ap (λ (o : Writing). o.operation) h4.1 ∙ h3.1
+  running4 : s4.writing ≡ Some (Cycle.start t, a, x)
+  running4 = ap (λ (o : Operation). o.operation) h4.1 ∙ h3.1
 
   pairs_go : Goes (host t (on_bus s0 (receives R.Control 0 0 0) (lines false false))) (pairs t a x) (host t (on_bus s4 (receives R.Control 0x0a 0 0) (lines false false)))
   pairs_go =

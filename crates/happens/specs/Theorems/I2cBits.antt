@@ -1,5 +1,5 @@
 -- I2C reports of a sensor that stands still and is not selected: bytes of a write transfer, each with its ninth clock.
-use Rattle.std.specs.Prelude.{ℕ, ◌+◌, ◌%◌, ◌<◌, ◌≤◌, ◌≡◌, Bool}
+use Rattle.std.specs.Prelude.{ℕ, ◌+◌, ◌%◌, ◌<◌, ◌≤◌, ◌≡◌, Bool, None}
 use Rattle.std.proofs.Math.Nat.{add-zero}
 use Rattle.std.proofs.Common.{mod-eq_of_lt, sym, subst, ◌∙◌, lt-ltb, leb→le, lit<}
 use native.Mathlib.Omega.{arith}
@@ -22,7 +22,6 @@ use Rattle.i2c.specs.declared.types.Step.{Step}
 use Rattle.i2c.specs.declared.types.Action.TheVariants as A
 use Rattle.i2c.specs.Bus.{data_moves, edge, is_condition, is_start, is_rise, is_fall, data_at}
 use Rattle.i2c.specs.Engine as E
-use Rattle.spi.specs.declared.types.Sent.TheVariants as Sent
 use Rattle.spi.specs.Frame as F
 use Rattle.reads.specs.Reads as Reads
 use Rattle.calls.specs.declared.types.Timed.TheVariants as Timed
@@ -232,7 +231,7 @@ module _ (now : Time) (late : T.late now ≡ false) (s : Sensor) (h : Held now s
 
 module _ (now : Time) (late : T.late now ≡ false) (s : Sensor) (h : Held now s) (unselected : s.frame.selected ≡ false) where
   dropped_held : Held now (byte_dropped s)
-  dropped_held = held_pins h (F.sending s.frame Sent.Nothing) s.i2c (Reads.dropped s.reads)
+  dropped_held = held_pins h (F.sending s.frame None) s.i2c (Reads.dropped s.reads)
 
   abbrev addressing : State
   addressing = receives R.Address s.i2c.pointer 0 0

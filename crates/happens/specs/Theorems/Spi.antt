@@ -1,9 +1,9 @@
 -- Every stored write happens over SPI: select, and four write frames at the start's time.
-use Rattle.std.specs.Prelude.{ℕ, ◌^◌, ◌<◌, ◌≡◌, Bool, true, false}
+use Rattle.sensor.specs.Operation.{Operation}
+use Rattle.std.specs.Prelude.{ℕ, ◌^◌, ◌<◌, ◌≡◌, Bool, true, false, Option, Some, None}
 use Rattle.std.proofs.Common.{arith, sym, ap, subst, ◌∙◌, lit<}
 use Rattle.std.proofs.Math.Path.{refl}
 use mathlib.Core.List.{List, [], ◌∷◌, ◌++◌}
-use Rattle.std.proofs.Math.Option.{Option, some}
 use Rattle.laws.specs.Bytes.{sent_bit, seven_bits}
 use Rattle.time.specs.declared.Time.{Time}
 use Rattle.nv.specs.Cycle as Cycle
@@ -11,8 +11,6 @@ use Rattle.deadlines.specs.Deadlines.{is_set, is_by}
 use Rattle.spi.specs.Frame as F
 use Rattle.calls.specs.declared.types.Call.{Call}
 use Rattle.registers.specs.Map.{at, control, ee_w}
-use Rattle.sensor.specs.declared.types.Operation.{Operation}
-use Rattle.sensor.specs.declared.types.Writing.{Writing}
 use Rattle.sensor.specs.declared.types.Sensor.{Sensor}
 use Rattle.sensor.specs.Image.{from_nonvolatile}
 use Rattle.sensor.specs.Select.{reselected, selected_to, may_select}
@@ -45,7 +43,7 @@ spi_writes now a x = Call.Select true ∷ frames now a x
 -- ---- they are a course of SPI, and their fractions fit
 
 abbrev chosen : Option SpiPins
-chosen = some (spi true true)
+chosen = Some (spi true true)
 
 edges_course : (now : Time) (ds : List Bool) → course spi_call (edges now ds) chosen ≡ chosen
 unfolding course moved edges spi_call spi_edge
@@ -90,7 +88,7 @@ module _ {b : Start} {a x : ℕ} {cut : Time} (w : Wanted b a x cut) where
   abbrev t : Time
   t = b.time
 
-  frame_left : {s : Sensor} → Awake t b.image true s → is_by (write_end s.writing.operation) t ≡ false → (r v : ℕ) → r < 128 → v < 256 → (write_register s r v t).frame ≡ F.fresh true
+  frame_left : {s : Sensor} → Awake t b.image true s → is_by (write_end s.writing) t ≡ false → (r v : ℕ) → r < 128 → v < 256 → (write_register s r v t).frame ≡ F.fresh true
       → Goes (host t s) (frame_edges t r v) (host t (write_register s r v t))
   frame_left {s} h e r v lr lv f = frame_goes t (in_time w) s (awake_held (few_seconds w) (a_fraction w) h e) r v lr lv h.frame f
 
@@ -122,13 +120,13 @@ module _ {b : Start} {a x : ℕ} {cut : Time} (w : Wanted b a x cut) where
   h3 : Manual t b.image true s2 s3 × (s3.writing ≡ s2.writing) × (ee_w (at s3.registers control) ≡ true)
   h3 = ee_w_written h2.0.awake h2.0.manual
 
-  idle2 : s2.writing.operation ≡ Operation.Idle
-  idle2 = ap (λ (o : Writing). o.operation) h2.1
+  idle2 : s2.writing ≡ None
+  idle2 = ap (λ (o : Operation). o.operation) h2.1
 
-  idle3 : s3.writing.operation ≡ Operation.Idle
-  idle3 = ap (λ (o : Writing). o.operation) h3.1 ∙ idle2
+  idle3 : s3.writing ≡ None
+  idle3 = ap (λ (o : Operation). o.operation) h3.1 ∙ idle2
 
-  h4 : Manual t b.image true s3 s4 × (s4.writing.operation ≡ Operation.Running (Cycle.start t) a x)
+  h4 : Manual t b.image true s3 s4 × (s4.writing ≡ Some (Cycle.start t, a, x))
   h4 = stored_written h3.0.awake h3.0.manual h3.2 idle3 a x w.first_cell w.last_cell
 
   h5 : Asleep b.image true s5 × (s5.writing ≡ s4.writing) × (s5.i2c ≡ s4.i2c)
@@ -148,7 +146,7 @@ module _ {b : Start} {a x : ℕ} {cut : Time} (w : Wanted b a x cut) where
       (frame_left h4.0.awake (running_undue (few_seconds w) (a_fraction w) h4.1) 0x0a 0x11 (lit< tt) (lit< tt) h5.0.frame)))))
 
   begins : Begins b a x (spi_writes t a x)
-  begins = record { selected = true; sensor = s5; goes = all_go; asleep = h5.0; running = ap (λ (o : Writing). o.operation) h5.1 ∙ h4.1; fits = fits t w.start_fraction a x }
+  begins = record { selected = true; sensor = s5; goes = all_go; asleep = h5.0; running = ap (λ (o : Operation). o.operation) h5.1 ∙ h4.1; fits = fits t w.start_fraction a x }
 
 -- for every accepted start, every cell and byte and every moment of the cut there are SPI calls that make this write and this cut: right after the return the cell holds the cut rule's byte, and every other cell the start's
 pub every_write_happens_over_spi : (b : Start) (a x : ℕ) (cut : Time) → Wanted b a x cut → Happens OverSpi b a x cut

@@ -1,5 +1,6 @@
 -- The four register writes: automatic mode off, ee_w set, a stored write begun, and sleep.
-use Rattle.std.specs.Prelude.{ℕ, ◌<◌, ◌≤◌, ◌≡◌, Bool, List, length, set}
+use Rattle.sensor.specs.Operation.{Operation}
+use Rattle.std.specs.Prelude.{ℕ, ◌<◌, ◌≤◌, ◌≡◌, Bool, List, length, set, Some, None}
 use Rattle.std.proofs.Common.{arith, sym, ◌∙◌, lit<, length-set, get_or-set_same, get_or-set_other}
 use Rattle.std.proofs.Math.Path.{refl, ap, subst}
 use Rattle.std.proofs.Math.Bool.{true, false}
@@ -8,7 +9,6 @@ use Rattle.time.specs.declared.Time.{Time}
 use Rattle.nv.specs.Cycle as Cycle
 use Rattle.spi.specs.declared.types.Frame.{Frame}
 use Rattle.spi.specs.Frame as F
-use Rattle.deadlines.specs.declared.Deadline.TheVariants.{Never}
 use Rattle.deadlines.specs.declared.Deadlines.{Deadlines}
 use Rattle.deadlines.specs.Deadlines.{is_set, never, with_irq_hold, with_pause, with_wake}
 use Rattle.registers.specs.declared.access.Gate.{Gate}
@@ -16,9 +16,7 @@ use Rattle.registers.specs.Map.{at, control, operation, ee_w, wake_up}
 use Rattle.registers.specs.Access.{unwritable, stored, image_blocks, sleep_blocks, locked, ignores}
 use Rattle.control.specs.declared.types.WriteKind.{WriteKind}
 use Rattle.control.specs.Kinds as Kinds
-use Rattle.sampling.specs.declared.types.Test.TheVariants as Test
 use Rattle.sampling.specs.Phase.{with_test}
-use Rattle.sensor.specs.declared.types.Operation.{Operation}
 use Rattle.sensor.specs.declared.types.Sensor.{Sensor}
 use Rattle.sensor.specs.Record.{put, with_reads, with_sampling, gate, automatic, is_writing, runs}
 use Rattle.sensor.specs.Image.{acquiring, shadowing}
@@ -27,7 +25,7 @@ use Rattle.writes.specs.Write.{recounted, interrupts_written, tested, slept, ima
 
 -- a sensor as it is from its start on: awake, with supply, its first scan to come, its stored bytes and its frame these
 pub record Awake (t : Time) (image : List ℕ) (selected : Bool) (s : Sensor) : Type 0 where
-  pub on : s.supply.unpowered_since ≡ Never
+  pub on : s.supply.unpowered_since ≡ None
   pub waits : s.deadlines ≡ acquiring t
   pub awake : s.sampling.asleep ≡ false
   pub cells : s.nonvolatile ≡ image
@@ -36,7 +34,7 @@ pub record Awake (t : Time) (image : List ℕ) (selected : Bool) (s : Sensor) : 
 
 -- asleep outside automatic mode: nothing is due but the end of a write
 pub record Asleep (image : List ℕ) (selected : Bool) (s : Sensor) : Type 0 where
-  pub on : s.supply.unpowered_since ≡ Never
+  pub on : s.supply.unpowered_since ≡ None
   pub waits : s.deadlines ≡ never
   pub asleep : s.sampling.asleep ≡ true
   pub cells : s.nonvolatile ≡ image
@@ -83,8 +81,8 @@ module _ {t : Time} {image : List ℕ} {selected : Bool} {s : Sensor} (h : Awake
   controls true = rw now_manual
   controls false = rw now_manual
 
-  without_hold : with_pause (with_irq_hold s.deadlines Never) Never ≡ acquiring t
-  without_hold = ap (λ (d : Deadlines). with_pause (with_irq_hold d Never) Never) h.waits
+  without_hold : with_pause (with_irq_hold s.deadlines None) None ≡ acquiring t
+  without_hold = ap (λ (d : Deadlines). with_pause (with_irq_hold d None) None) h.waits
 
   turned_awake : (b : Bool) → Awake t image selected (turned b)
   unfolding mode_written recounted
@@ -108,7 +106,7 @@ module _ {t : Time} {image : List ℕ} {selected : Bool} {s : Sensor} (h : Awake
 
 -- its fields but sleep
 abbrev put_control : Sensor → (value : ℕ) → Sensor
-put_control s value = with_sampling (put s control value) (with_test s.sampling Test.Off)
+put_control s value = with_sampling (put s control value) (with_test s.sampling None)
 
 module _ {t : Time} {image : List ℕ} {selected : Bool} {s : Sensor} (h : Awake t image selected s) (manual : automatic s ≡ false) where
   control_kind : (running : Bool) → (Kinds.kind_of_write 0x0a 0x10 (gate s) running ≡ WriteKind.Control) × (Kinds.kind_of_write 0x0a 0x11 (gate s) running ≡ WriteKind.Control)
@@ -165,7 +163,7 @@ module _ {t : Time} {image : List ℕ} {selected : Bool} {s : Sensor} (h : Awake
   slept_asleep : Asleep image selected sent_to_sleep
   slept_asleep = record {
     on = h.on;
-    waits = ap (λ (d : Deadlines). with_pause (with_irq_hold (with_wake d Never) Never) Never) h.waits;
+    waits = ap (λ (d : Deadlines). with_pause (with_irq_hold (with_wake d None) None) None) h.waits;
     asleep = refl;
     cells = h.cells;
     frame = ap (λ (f : Frame). F.released f) h.frame;
@@ -179,7 +177,7 @@ module _ {t : Time} {image : List ℕ} {selected : Bool} {s : Sensor} (h : Awake
 
 -- ---- 2b..3d: a stored write begins
 module _ {t : Time} {image : List ℕ} {selected : Bool} {s : Sensor} (h : Awake t image selected s) (manual : automatic s ≡ false) (ee : ee_w (at s.registers control) ≡ true)
-    (idle : s.writing.operation ≡ Operation.Idle) (a x : ℕ) (low : 0x2b ≤ a) (high : a ≤ 0x3d) where
+    (idle : s.writing ≡ None) (a x : ℕ) (low : 0x2b ≤ a) (high : a ≤ 0x3d) where
   stored_here : stored a ≡ true
   unfolding stored
   stored_here = rw (le-leb 0x2b a low, le-leb a 0x3d high)
@@ -193,10 +191,10 @@ module _ {t : Time} {image : List ℕ} {selected : Bool} {s : Sensor} (h : Awake
   stored_kind = rw (gate_unbarred h, not_ignored, stored_here, idle)
 
   -- it runs from then on
-  pub stored_written : let u = write_register s a x t in Manual t image selected s u × (u.writing.operation ≡ Operation.Running (Cycle.start t) a x)
+  pub stored_written : let u = write_register s a x t in Manual t image selected s u × (u.writing ≡ Some (Cycle.start t, a, x))
   unfolding write_effect
   stored_written =
       let e : write_register s a x t ≡ begun s a x t = ap (λ (k : WriteKind). write_effect k s a x t) stored_kind in
       let left : Awake t image selected (begun s a x t) = record { on = h.on; waits = h.waits; awake = h.awake; cells = h.cells; sized = h.sized; frame = h.frame } in
-      subst (λ (u : Sensor). Manual t image selected s u × (u.writing.operation ≡ Operation.Running (Cycle.start t) a x)) (sym e)
+      subst (λ (u : Sensor). Manual t image selected s u × (u.writing ≡ Some (Cycle.start t, a, x))) (sym e)
       (record { awake = left; manual = manual; i2c = refl }, refl)

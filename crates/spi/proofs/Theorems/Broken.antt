@@ -1,17 +1,12 @@
 -- Frames that are broken off: without its sixteen rises nothing is written.
-use Rattle.std.specs.Prelude.{◌≡◌, refl, Bool, true, false, List, [], ◌∷◌, ◌++◌, ℕ, suc, ◌+◌, ◌≤◌, ◌<◌, ltb, drop}
+use Rattle.std.specs.Prelude.{◌≡◌, refl, Bool, true, false, List, [], ◌∷◌, ◌++◌, ℕ, suc, ◌+◌, ◌≤◌, ◌<◌, ltb, drop, Option, Some, None}
 use Rattle.std.proofs.Common.{sym, subst, ◌∙◌, zero-add, arith, ltb-false}
 use Rattle.std.proofs.Math.Path.{ap}
 use Rattle.std.proofs.Math.Bool.{cond}
 use Rattle.laws.specs.Bytes.{shifted_in}
 use Rattle.spi.specs.declared.types.Serial.{Serial}
 use Rattle.spi.specs.declared.types.Serial.TheVariants as S
-use Rattle.spi.specs.declared.types.Sent.{Sent}
 use Rattle.spi.specs.declared.types.Frame.{Frame}
-use Rattle.spi.specs.declared.types.FirstBit.{FirstBit}
-use Rattle.spi.specs.declared.types.FirstBit.TheVariants as K
-use Rattle.spi.specs.declared.types.Write.{Write}
-use Rattle.spi.specs.declared.types.Write.TheVariants as W
 use Rattle.spi.specs.declared.types.Taken.{Taken}
 use Rattle.spi.specs.declared.types.Shift.{Shift}
 use Rattle.spi.specs.declared.types.Shift.TheVariants as H
@@ -56,34 +51,34 @@ fetching_writes_nothing H.Stay = refl
 fetching_writes_nothing (H.Fetch a) = refl
 fetching_writes_nothing H.Next = refl
 
-noting_first : (k : FirstBit) (ds : List Deed) → writes (noted k ++ ds) ≡ writes ds
+noting_first : (k : Option ℕ) (ds : List Deed) → writes (noted k ++ ds) ≡ writes ds
 unfolding writes noted
-noting_first K.Nothing ds = refl
-noting_first (K.Register a) ds = refl
+noting_first None ds = refl
+noting_first (Some a) ds = refl
 
 -- a rise that completes no write
-bit_writes_nothing : (n : Now) (k : FirstBit) (t : Taken) → t.write ≡ W.Nothing → writes (bit_deeds n k t) ≡ []
+bit_writes_nothing : (n : Now) (k : Option ℕ) (t : Taken) → t.write ≡ None → writes (bit_deeds n k t) ≡ []
 unfolding wrote
 bit_writes_nothing n k t e =
     noting_first k (wrote t.write ++ fetched (rise_shift n t))
-    ∙ ap (λ (w : Write). writes (wrote w ++ fetched (rise_shift n t))) e
+    ∙ ap (λ (w : Option (ℕ × ℕ)). writes (wrote w ++ fetched (rise_shift n t))) e
     ∙ fetching_writes_nothing (rise_shift n t)
 
 -- the output changes neither what the byte belongs to, nor its bits, nor whether the sensor is selected
-moved_keeps : (s : Serial) (f : Frame) (t : Sent) → ((moved s f t).serial ≡ f.serial) × ((moved s f t).rx_bits ≡ f.rx_bits) × ((moved s f t).selected ≡ f.selected)
+moved_keeps : (s : Serial) (f : Frame) (t : Option ℕ) → ((moved s f t).serial ≡ f.serial) × ((moved s f t).rx_bits ≡ f.rx_bits) × ((moved s f t).selected ≡ f.selected)
 unfolding moved
 moved_keeps S.Address f t = (refl, refl, refl)
 moved_keeps (S.Read a) f t = (refl, refl, refl)
 moved_keeps (S.Write a) f t = (refl, refl, refl)
 
-output_keeps : (shows : ℕ → Sent) (f : Frame) (h : Shift)
+output_keeps : (shows : ℕ → Option ℕ) (f : Frame) (h : Shift)
     → ((output shows f h).serial ≡ f.serial) × ((output shows f h).rx_bits ≡ f.rx_bits) × ((output shows f h).selected ≡ f.selected)
 unfolding output
 output_keeps shows f H.Stay = (refl, refl, refl)
 output_keeps shows f (H.Fetch a) = moved_keeps f.serial f (shows a)
 output_keeps shows f H.Next = moved_keeps f.serial f f.tx
 
-output_holds : (shows : ℕ → Sent) (f : Frame) (h : Shift) → held (output shows f h) ≡ held f
+output_holds : (shows : ℕ → Option ℕ) (f : Frame) (h : Shift) → held (output shows f h) ≡ held f
 output_holds shows f h =
     let k = output_keeps shows f h in
     ap (λ (s : Serial). bits_held s (output shows f h).rx_bits) k.0 ∙ ap (λ (b : ℕ). bits_held f.serial b) k.1
@@ -120,14 +115,14 @@ addressed_holds true f x m four_wire e h = rw e (omega arith)
 addressed_holds false f x m four_wire e h = rw e (omega arith)
 
 completed_too_early : (s : Serial) (f : Frame) (x b m : ℕ) (four_wire : Bool) → bits_held s b + suc m < 16 → 7 ≤ b
-    → ((completed s f x four_wire).write ≡ W.Nothing) × (held (completed s f x four_wire).frame + m < 16)
+    → ((completed s f x four_wire).write ≡ None) × (held (completed s f x four_wire).frame + m < 16)
 unfolding completed bits_held
 completed_too_early S.Address f x b m four_wire h full = (refl, addressed_holds (ltb x 128) f x m four_wire refl (omega arith))
 completed_too_early (S.Read a) f x b m four_wire h full = (refl, omega arith)
 completed_too_early (S.Write a) f x b m four_wire h full = absurd (omega arith)
 
 taken_too_early : (c : Bool) (f : Frame) (mosi four_wire : Bool) (m : ℕ) → ltb f.rx_bits 7 ≡ c → held f + suc m < 16
-    → ((take_bit f mosi four_wire).write ≡ W.Nothing) × (held (take_bit f mosi four_wire).frame + m < 16)
+    → ((take_bit f mosi four_wire).write ≡ None) × (held (take_bit f mosi four_wire).frame + m < 16)
 unfolding take_bit
 taken_too_early true f mosi four_wire m e h = rw e (refl, one_more_held f.serial f.rx_bits m h)
 taken_too_early false f mosi four_wire m e h =
@@ -215,19 +210,19 @@ broken_frame_writes_nothing es ns h = (
 -- ---- a read writes nothing
 
 completed_reads : (s : Serial) (f : Frame) (x : ℕ) (four_wire : Bool) → reads s ≡ true
-    → ((completed s f x four_wire).write ≡ W.Nothing) × (reads (completed s f x four_wire).frame.serial ≡ true)
+    → ((completed s f x four_wire).write ≡ None) × (reads (completed s f x four_wire).frame.serial ≡ true)
 unfolding completed reads
 completed_reads S.Address f x four_wire r = let z : ◌≡◌ {A = ℕ} 0 1 = cc in absurd (omega arith)
 completed_reads (S.Read a) f x four_wire r = (refl, refl)
 completed_reads (S.Write a) f x four_wire r = let z : ◌≡◌ {A = ℕ} 0 1 = cc in absurd (omega arith)
 
 taken_reads : (c : Bool) (f : Frame) (mosi four_wire : Bool) → ltb f.rx_bits 7 ≡ c → reads f.serial ≡ true
-    → ((take_bit f mosi four_wire).write ≡ W.Nothing) × (reads (take_bit f mosi four_wire).frame.serial ≡ true)
+    → ((take_bit f mosi four_wire).write ≡ None) × (reads (take_bit f mosi four_wire).frame.serial ≡ true)
 unfolding take_bit
 taken_reads true f mosi four_wire e r = rw e (refl, r)
 taken_reads false f mosi four_wire e r = rw e (completed_reads f.serial f (shifted_in f.rx mosi) four_wire r)
 
-output_reads : (shows : ℕ → Sent) (f : Frame) (h : Shift) → reads f.serial ≡ true → reads (output shows f h).serial ≡ true
+output_reads : (shows : ℕ → Option ℕ) (f : Frame) (h : Shift) → reads f.serial ≡ true → reads (output shows f h).serial ≡ true
 output_reads shows f h r = ap (λ (s : Serial). reads s) (output_keeps shows f h).0 ∙ r
 
 -- an event writes nothing, and a read goes on

@@ -1,5 +1,5 @@
 -- The select pin, and write frames, whatever the wire mode and the registers at each event.
-use Rattle.std.specs.Prelude.{◌≡◌, Bool, cond, ℕ, suc, ◌+◌, ◌≤◌, ◌<◌, drop}
+use Rattle.std.specs.Prelude.{◌≡◌, Bool, cond, ℕ, suc, ◌+◌, ◌≤◌, ◌<◌, drop, Option, Some, None}
 use Rattle.std.proofs.Math.Path.{refl, ap}
 use Rattle.std.proofs.Common.{sym, ◌∙◌, lt-ltb, leb→le, drop-drop}
 use Rattle.std.proofs.Math.Bool.{true, false}
@@ -12,15 +12,9 @@ use Rattle.laws.specs.Bytes.{sent_bit, shifted_in, all_shifted_in, seven_bits, b
 use Rattle.spi.specs.declared.types.Serial.{Serial}
 use Rattle.spi.specs.declared.types.Serial.TheVariants as S
 use Rattle.spi.specs.declared.types.Drive.TheVariants as D
-use Rattle.spi.specs.declared.types.Sent.{Sent}
-use Rattle.spi.specs.declared.types.Sent.TheVariants as T
 use Rattle.spi.specs.declared.types.Clocked.{Clocked}
 use Rattle.spi.specs.declared.types.Clocked.TheVariants as C
 use Rattle.spi.specs.declared.types.Frame.{Frame}
-use Rattle.spi.specs.declared.types.FirstBit.{FirstBit}
-use Rattle.spi.specs.declared.types.FirstBit.TheVariants as K
-use Rattle.spi.specs.declared.types.Write.{Write}
-use Rattle.spi.specs.declared.types.Write.TheVariants as W
 use Rattle.spi.specs.declared.types.Taken.{Taken}
 use Rattle.spi.specs.declared.types.Shift.TheVariants as H
 use Rattle.spi.specs.Frame.{fresh, differs, select, reads, first_bit, addressed, completed, take_bit, moves, fetches, shifts, moved, consumes_at_rise, consumes_at_fall}
@@ -117,7 +111,7 @@ pub selected_anew : (f : Frame) → select (select f false) true ≡ fresh true
 selected_anew f = anew f.selected f refl
 
 -- a fall comes through while the sensor is not selected (`falling_at`): it changes nothing, takes no sample and does nothing
-unselected_as : (shows : ℕ → Sent) (w : Bool)
+unselected_as : (shows : ℕ → Option ℕ) (w : Bool)
     → (output shows (fresh false) (shifts (fresh false) C.Fall w) ≡ fresh false) × (consumes_at_fall (fresh false) w ≡ false) × (fetched (shifts (fresh false) C.Fall w) ≡ [])
 unfolding output shifts moves fetches fetched moved consumes_at_fall reads
 unselected_as shows true = (refl, refl, refl)
@@ -131,10 +125,10 @@ fall_while_unselected n = unselected_as n.shows n.four_wire
 
 -- a selected sensor within a byte that it receives, sending nothing
 abbrev pub receiving : Serial → (bits byte : ℕ) → Frame
-receiving s b x = record { serial = s; selected = true; rx = x; rx_bits = b; tx = T.Nothing; tx_bit = 8; driven = D.Floating; turnaround = false }
+receiving s b x = record { serial = s; selected = true; rx = x; rx_bits = b; tx = None; tx_bit = 8; driven = D.Floating; turnaround = false }
 
 -- whether its output moves or not, it floats and fetches nothing
-still_as : (shows : ℕ → Sent) (moves? : Bool) (s : Serial) (b x : ℕ) → reads s ≡ false
+still_as : (shows : ℕ → Option ℕ) (moves? : Bool) (s : Serial) (b x : ℕ) → reads s ≡ false
     → let h = cond moves? (fetches s 8) H.Stay in (output shows (receiving s b x) h ≡ receiving s b x) × (fetched h ≡ [])
 unfolding reads fetches output fetched moved
 still_as shows true S.Address b x r = (refl, refl)
@@ -142,12 +136,12 @@ still_as shows true (S.Write a) b x r = (refl, refl)
 still_as shows true (S.Read a) b x r = let z : ◌≡◌ {A = ℕ} 0 1 = cc in absurd (omega arith)
 still_as shows false s b x r = (refl, refl)
 
-still : (shows : ℕ → Sent) (at : Clocked) (four_wire : Bool) (s : Serial) (b x : ℕ) → reads s ≡ false
+still : (shows : ℕ → Option ℕ) (at : Clocked) (four_wire : Bool) (s : Serial) (b x : ℕ) → reads s ≡ false
     → let h = shifts (receiving s b x) at four_wire in (output shows (receiving s b x) h ≡ receiving s b x) × (fetched h ≡ [])
 unfolding shifts
 still shows at four_wire s b x r = still_as shows (moves at four_wire false) s b x r
 
-no_note : (s : Serial) (b : ℕ) → reads s ≡ false → first_bit s b ≡ K.Nothing
+no_note : (s : Serial) (b : ℕ) → reads s ≡ false → first_bit s b ≡ None
 unfolding reads first_bit
 no_note S.Address b r = refl
 no_note (S.Write a) b r = refl
@@ -155,7 +149,7 @@ no_note (S.Read a) b r = let z : ◌≡◌ {A = ℕ} 0 1 = cc in absurd (omega a
 
 -- a rise that ends in a byte received, with what the bit makes of the frame
 module _ (s : Serial) (r : reads s ≡ false) (b x : ℕ) (d : Bool) (to : Serial) (q : reads to ≡ false) (c y : ℕ) where
-  rise_received : (ns : List Now) (w : Write) (sampled : Bool) → take_bit (receiving s b x) d (now ns).four_wire ≡ record { frame = receiving to c y; write = w }
+  rise_received : (ns : List Now) (w : Option (ℕ × ℕ)) (sampled : Bool) → take_bit (receiving s b x) d (now ns).four_wire ≡ record { frame = receiving to c y; write = w }
       → consumes_at_rise (receiving s b x) ≡ sampled
       → Serves (receiving s b x) (Rise d ∷ []) ns (record { driven = D.Floating; sampled = sampled; deeds = wrote w ++ [] } ∷ []) (receiving to c y)
   unfolding serve deeds samples noted
@@ -164,11 +158,11 @@ module _ (s : Serial) (r : reads s ≡ false) (b x : ℕ) (d : Bool) (to : Seria
       let stays = still n.shows C.Rise n.four_wire_then to c y q in
       one_event (ap (λ (t : Taken). bit_served n t) e ∙ stays.0) g
       (ap (λ (t : Taken). bit_deeds n (first_bit s b) t) e
-      ∙ ap (λ (k : FirstBit). noted k ++ (wrote w ++ fetched (shifts (receiving to c y) C.Rise n.four_wire_then))) (no_note s b r)
+      ∙ ap (λ (k : Option ℕ). noted k ++ (wrote w ++ fetched (shifts (receiving to c y) C.Rise n.four_wire_then))) (no_note s b r)
       ∙ ap (λ (l : List Deed). wrote w ++ l) stays.1)
 
 module _ (s : Serial) (r : reads s ≡ false) where
-  bit_received : (b x : ℕ) (d four_wire : Bool) → b < 7 → take_bit (receiving s b x) d four_wire ≡ record { frame = receiving s (b + 1) (shifted_in x d); write = W.Nothing }
+  bit_received : (b x : ℕ) (d four_wire : Bool) → b < 7 → take_bit (receiving s b x) d four_wire ≡ record { frame = receiving s (b + 1) (shifted_in x d); write = None }
   unfolding take_bit
   bit_received b x d four_wire h = rw (lt-ltb b 7 h)
 
@@ -178,7 +172,7 @@ module _ (s : Serial) (r : reads s ≡ false) where
 
   one_rise : (b x : ℕ) (d : Bool) (ns : List Now) → b < 7 → Serves (receiving s b x) (Rise d ∷ []) ns (floats ∷ []) (receiving s (b + 1) (shifted_in x d))
   unfolding wrote
-  one_rise b x d ns h = rise_received s r b x d s r (b + 1) (shifted_in x d) ns W.Nothing false (bit_received b x d (now ns).four_wire h) (no_sample b x h)
+  one_rise b x d ns h = rise_received s r b x d s r (b + 1) (shifted_in x d) ns None false (bit_received b x d (now ns).four_wire h) (no_sample b x h)
 
   no_sample_at_fall : (b x : ℕ) (four_wire : Bool) → consumes_at_fall (receiving s b x) four_wire ≡ false
   unfolding consumes_at_fall
@@ -216,13 +210,13 @@ module _ (s : Serial) (r : reads s ≡ false) where
 
 -- the eighth rise of an address byte below 128: a value byte follows
 write_addressed : (a : ℕ) (four_wire : Bool) → a < 128
-    → take_bit (receiving S.Address 7 (all_shifted_in 0 (seven_bits a))) (sent_bit a 7) four_wire ≡ record { frame = receiving (S.Write a) 0 0; write = W.Nothing }
+    → take_bit (receiving S.Address 7 (all_shifted_in 0 (seven_bits a))) (sent_bit a 7) four_wire ≡ record { frame = receiving (S.Write a) 0 0; write = None }
 unfolding take_bit completed addressed
 write_addressed a four_wire h = rw (bits_make_the_byte a (omega arith), lt-ltb a 128 h)
 
 -- the eighth rise of a value byte: it is written, and an address byte follows
 value_completed : (a x : ℕ) (four_wire : Bool) → x < 256
-    → take_bit (receiving (S.Write a) 7 (all_shifted_in 0 (seven_bits x))) (sent_bit x 7) four_wire ≡ record { frame = fresh true; write = W.Register a x }
+    → take_bit (receiving (S.Write a) 7 (all_shifted_in 0 (seven_bits x))) (sent_bit x 7) four_wire ≡ record { frame = fresh true; write = Some (a, x) }
 unfolding take_bit completed
 value_completed a x four_wire h = rw (bits_make_the_byte x h)
 
@@ -230,13 +224,13 @@ pub write_address_served : (a : ℕ) (ns : List Now) → a < 128 → Serves (fre
 unfolding clocked each_floats reads wrote consumes_at_rise
 write_address_served a ns h =
     and_serves (seven_received S.Address refl a ns)
-    (rise_received S.Address refl 7 _ (sent_bit a 7) (S.Write a) refl 0 0 (drop 14 ns) W.Nothing true (write_addressed a (now (drop 14 ns)).four_wire h) refl)
+    (rise_received S.Address refl 7 _ (sent_bit a 7) (S.Write a) refl 0 0 (drop 14 ns) None true (write_addressed a (now (drop 14 ns)).four_wire h) refl)
 
 pub value_served : (a x : ℕ) (ns : List Now) → x < 256 → Serves (receiving (S.Write a) 0 0) (eight_rises x) ns (taken_answer (Wrote a x ∷ [])) (fresh true)
 unfolding clocked each_floats reads wrote consumes_at_rise
 value_served a x ns h =
     and_serves (seven_received (S.Write a) refl x ns)
-    (rise_received (S.Write a) refl 7 _ (sent_bit x 7) S.Address refl 0 0 (drop 14 ns) (W.Register a x) true (value_completed a x (now (drop 14 ns)).four_wire h) refl)
+    (rise_received (S.Write a) refl 7 _ (sent_bit x 7) S.Address refl 0 0 (drop 14 ns) (Some (a, x)) true (value_completed a x (now (drop 14 ns)).four_wire h) refl)
 
 -- a fall before a frame, or after a write frame, does nothing
 pub fall_between_frames : (ns : List Now) → Serves (fresh true) (Fall ∷ []) ns (floats ∷ []) (fresh true)

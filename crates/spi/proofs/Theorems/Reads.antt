@@ -1,17 +1,13 @@
 -- Read frames of any number of bytes, each the byte that its register shows at the event that fetches it.
-use Rattle.std.specs.Prelude.{◌≡◌, Bool, true, false, not, List, [], ◌∷◌, ◌++◌, ℕ, ◌+◌, ◌%◌, ◌<◌, length, drop, replicate}
+use Rattle.std.specs.Prelude.{◌≡◌, Bool, true, false, not, List, [], ◌∷◌, ◌++◌, ℕ, ◌+◌, ◌%◌, ◌<◌, length, drop, replicate, Option, Some, None}
 use Rattle.std.proofs.Math.Path.{refl, ap}
 use Rattle.std.proofs.Common.{sym, subst, ◌∙◌, arith, le-ltb, drop-drop}
 use Rattle.laws.specs.Bytes.{sent_bit, all_shifted_in, seven_bits, bits_make_the_byte}
 use Rattle.spi.specs.declared.types.Serial.TheVariants as S
 use Rattle.spi.specs.declared.types.Drive.{Drive}
 use Rattle.spi.specs.declared.types.Drive.TheVariants as D
-use Rattle.spi.specs.declared.types.Sent.{Sent}
-use Rattle.spi.specs.declared.types.Sent.TheVariants as T
 use Rattle.spi.specs.declared.types.Clocked.TheVariants as C
 use Rattle.spi.specs.declared.types.Frame.{Frame}
-use Rattle.spi.specs.declared.types.FirstBit.TheVariants as K
-use Rattle.spi.specs.declared.types.Write.TheVariants as W
 use Rattle.spi.specs.declared.types.Taken.{Taken}
 use Rattle.spi.specs.declared.types.Shift.{Shift}
 use Rattle.spi.specs.declared.types.Shift.TheVariants as H
@@ -25,7 +21,7 @@ use Rattle.spi.proofs.Theorems.Frames.{drop_more, Serves, and_serves, one_event,
 
 read_addressed : (a : ℕ) (four_wire : Bool) → a < 128
     → take_bit (receiving S.Address 7 (all_shifted_in 0 (seven_bits (128 + a)))) (sent_bit (128 + a) 7) four_wire
-    ≡ record { frame = to_read a D.Floating (not four_wire); write = W.Nothing }
+    ≡ record { frame = to_read a D.Floating (not four_wire); write = None }
 unfolding take_bit completed addressed
 read_addressed a four_wire h =
     let m : (128 + a) % 128 ≡ a = omega arith in rw (bits_make_the_byte (128 + a) (omega arith), le-ltb (128 + a) 128 (omega arith), m)
@@ -39,7 +35,7 @@ module _ (a : ℕ) (h : a < 128) (ns : List Now) where
       let n = now ns in
       let t = ap (λ (w : Bool). take_bit (receiving S.Address 7 (all_shifted_in 0 (seven_bits (128 + a)))) (sent_bit (128 + a) 7) w) e ∙ read_addressed a four_wire h in
       one_event (ap (λ (u : Taken). bit_served n u) t ∙ ap (λ (k : Shift). output n.shows (to_read a D.Floating (not four_wire)) k) stays) refl
-      (ap (λ (u : Taken). bit_deeds n K.Nothing u) t ∙ ap (λ (k : Shift). fetched k) stays)
+      (ap (λ (u : Taken). bit_deeds n None u) t ∙ ap (λ (k : Shift). fetched k) stays)
 
 -- in four-wire mode at the eighth rise the byte of register a is to be fetched next
 pub four_wire_address_served : (a : ℕ) (ns : List Now) → a < 128 → (now (drop 14 ns)).four_wire ≡ true → (now (drop 14 ns)).four_wire_then ≡ true
@@ -98,10 +94,10 @@ keeps_serves w es {f} {g} {ns} {a} k p = record { is_seen = seen_in_mode w es f 
 
 -- ---- four-wire reads
 
-first_level : (t : Sent) → level t true 0 ≡ drive_for t 7
+first_level : (t : Option ℕ) → level t true 0 ≡ drive_for t 7
 unfolding level bit_drive drive_for
-first_level T.Nothing = refl
-first_level (T.Byte b) = refl
+first_level None = refl
+first_level (Some b) = refl
 
 -- a fall fetches the byte that its register then shows, and shows its first bit
 pub fall_fetches : (a : ℕ) (d : Drive) (ns : List Now) → (now ns).four_wire ≡ true
@@ -115,22 +111,22 @@ fall_fetches a d ns met =
     (ap (λ (w : Bool). consumes_at_fall f w) met) (ap (λ (w : Bool). fetched (shifts f C.Fall w)) met)
 
 -- all bits of a register's byte were on the pin, and none of its rises came
-abbrev pub all_shown : (register : ℕ) → Sent → Frame
+abbrev pub all_shown : (register : ℕ) → Option ℕ → Frame
 all_shown a t = record { serial = S.Read a; selected = true; rx = 0; rx_bits = 0; tx = t; tx_bit = 8; driven = D.Floating; turnaround = false }
 
-rises_in_mode : (a : ℕ) (t : Sent) (o : Levels8) (ns : List Now)
+rises_in_mode : (a : ℕ) (t : Option ℕ) (o : Levels8) (ns : List Now)
     → Serves (first_shown a t) (read_rises o) (all_in_mode true (read_rises o) ns) (four_wire_rises a t) (to_read (next_register a) (drive_for t 0) false)
 unfolding seen left serve deeds samples output noted wrote fetched reads first_bit take_bit completed shifts moves fetches moved level bit_drive next_bit drive_for consumes_at_rise consumes_at_fall
-rises_in_mode a T.Nothing o ns = record { is_seen = refl; is_left = refl }
-rises_in_mode a (T.Byte b) o ns = record { is_seen = refl; is_left = refl }
+rises_in_mode a None o ns = record { is_seen = refl; is_left = refl }
+rises_in_mode a (Some b) o ns = record { is_seen = refl; is_left = refl }
 
 -- eight more falls without a rise show the further bits, and the last of them floats
-falls_in_mode : (a : ℕ) (t : Sent) (ns : List Now)
+falls_in_mode : (a : ℕ) (t : Option ℕ) (ns : List Now)
     → Serves (first_shown a t) (replicate 8 Fall) (all_in_mode true (replicate 8 Fall) ns)
     (shows_bit t 6 ∷ shows_bit t 5 ∷ shows_bit t 4 ∷ shows_bit t 3 ∷ shows_bit t 2 ∷ shows_bit t 1 ∷ shows_bit t 0 ∷ floats ∷ []) (all_shown a t)
 unfolding seen left serve deeds samples output fetched reads shifts moves fetches moved level bit_drive next_bit drive_for consumes_at_fall
-falls_in_mode a T.Nothing ns = record { is_seen = refl; is_left = refl }
-falls_in_mode a (T.Byte b) ns = record { is_seen = refl; is_left = refl }
+falls_in_mode a None ns = record { is_seen = refl; is_left = refl }
+falls_in_mode a (Some b) ns = record { is_seen = refl; is_left = refl }
 
 -- nine falls without a rise: the byte is fetched once, and the ninth floats
 pub ninth_fall_floats : (a : ℕ) (d : Drive) (ns : List Now) → Keeps true (replicate 9 Fall) ns
@@ -180,11 +176,11 @@ abbrev to_eighth_fall : Levels8 → List Event
 to_eighth_fall o = Fall ∷ Rise o.0 ∷ Fall ∷ Rise o.1 ∷ Fall ∷ Rise o.2 ∷ Fall ∷ Rise o.3 ∷ Fall ∷ Rise o.4 ∷ Fall ∷ Rise o.5 ∷ Fall ∷ Rise o.6 ∷ Fall ∷ []
 
 -- the last bit of a byte is on the pin
-abbrev last_shown : (register : ℕ) → Sent → (rx : ℕ) → Frame
+abbrev last_shown : (register : ℕ) → Option ℕ → (rx : ℕ) → Frame
 last_shown a t x = record { serial = S.Read a; selected = true; rx = x; rx_bits = 7; tx = t; tx_bit = 8; driven = drive_for t 0; turnaround = false }
 
 -- its fifth bit is
-abbrev fifth_shown : (register : ℕ) → Sent → (rx : ℕ) → Frame
+abbrev fifth_shown : (register : ℕ) → Option ℕ → (rx : ℕ) → Frame
 fifth_shown a t x = record { serial = S.Read a; selected = true; rx = x; rx_bits = 4; tx = t; tx_bit = 5; driven = drive_for t 3; turnaround = false }
 
 module _ (a : ℕ) (o : Levels8) where
@@ -200,27 +196,27 @@ module _ (a : ℕ) (o : Levels8) where
   abbrev three_clocks : List Event
   three_clocks = Fall ∷ Rise o.4 ∷ Fall ∷ Rise o.5 ∷ Fall ∷ Rise o.6 ∷ Fall ∷ []
 
-  four_in_mode : (t : Sent) (ns : List Now)
+  four_in_mode : (t : Option ℕ) (ns : List Now)
       → Serves (first_shown a t) four_clocks (all_in_mode false four_clocks ns)
       (shows_bit t 7 ∷ shows_bit_and t 6 (Noted a ∷ []) ∷ shows_bit t 6 ∷ shows_bit t 5 ∷ shows_bit t 5 ∷ shows_bit t 4 ∷ shows_bit t 4 ∷ shows_bit t 3 ∷ []) (fifth_shown a t four_levels)
   unfolding seen left serve deeds samples output noted wrote fetched reads first_bit take_bit completed shifts moves fetches moved level bit_drive next_bit drive_for consumes_at_rise consumes_at_fall all_shifted_in
-  four_in_mode T.Nothing ns = record { is_seen = refl; is_left = refl }
-  four_in_mode (T.Byte b) ns = record { is_seen = refl; is_left = refl }
+  four_in_mode None ns = record { is_seen = refl; is_left = refl }
+  four_in_mode (Some b) ns = record { is_seen = refl; is_left = refl }
 
-  three_in_mode : (t : Sent) (x : ℕ) (ns : List Now)
+  three_in_mode : (t : Option ℕ) (x : ℕ) (ns : List Now)
       → Serves (fifth_shown a t x) three_clocks (all_in_mode false three_clocks ns)
       (shows_bit t 3 ∷ shows_bit t 2 ∷ shows_bit t 2 ∷ shows_bit t 1 ∷ shows_bit t 1 ∷ shows_bit t 0 ∷ shows_bit t 0 ∷ []) (last_shown a t (all_shifted_in x (o.4 ∷ o.5 ∷ o.6 ∷ [])))
   unfolding seen left serve deeds samples output noted wrote fetched reads first_bit take_bit completed shifts moves fetches moved level bit_drive next_bit drive_for consumes_at_rise consumes_at_fall all_shifted_in
-  three_in_mode T.Nothing x ns = record { is_seen = refl; is_left = refl }
-  three_in_mode (T.Byte b) x ns = record { is_seen = refl; is_left = refl }
+  three_in_mode None x ns = record { is_seen = refl; is_left = refl }
+  three_in_mode (Some b) x ns = record { is_seen = refl; is_left = refl }
 
-  bits_shown : (t : Sent) (ns : List Now) → Keeps false (to_eighth_fall o) ns → Serves (first_shown a t) (to_eighth_fall o) ns (three_wire_bits a t) (last_shown a t seven_levels)
+  bits_shown : (t : Option ℕ) (ns : List Now) → Keeps false (to_eighth_fall o) ns → Serves (first_shown a t) (to_eighth_fall o) ns (three_wire_bits a t) (last_shown a t seven_levels)
   bits_shown t ns k =
       let both = keeps_append false four_clocks three_clocks ns k in
       and_serves (keeps_serves false four_clocks both.0 (four_in_mode t ns)) (keeps_serves false three_clocks both.1 (three_in_mode t four_levels (drop 8 ns)))
 
 -- the eighth rise fetches the byte that the next register then shows, and shows its first bit
-eighth_rise_fetches : (a : ℕ) (t : Sent) (x : ℕ) (l : Bool) (ns : List Now) → (now ns).four_wire_then ≡ false
+eighth_rise_fetches : (a : ℕ) (t : Option ℕ) (x : ℕ) (l : Bool) (ns : List Now) → (now ns).four_wire_then ≡ false
     → let u = shown ns (next_register a) in
     Serves (last_shown a t x) (Rise l ∷ []) ns (shows_bit_and u 7 (Fetched (next_register a) ∷ []) ∷ []) (first_shown (next_register a) u)
 unfolding serve deeds samples output noted wrote fetched reads first_bit take_bit completed shifts moves fetches moved next_bit consumes_at_rise
@@ -234,14 +230,14 @@ eighth_rise_fetches a t x l ns keeps =
     refl (ap (λ (w : Bool). fetched (shifts f C.Rise w)) keeps)
 
 -- a byte whose first bit is on the pin
-pub three_wire_byte_served : (a : ℕ) (t : Sent) (o : Levels8) (ns : List Now) → Keeps false (read_byte o) ns
+pub three_wire_byte_served : (a : ℕ) (t : Option ℕ) (o : Levels8) (ns : List Now) → Keeps false (read_byte o) ns
     → Serves (first_shown a t) (read_byte o) ns (three_wire_byte a t (next_byte_shown a ns)) (first_shown (next_register a) (next_byte_shown a ns))
 three_wire_byte_served a t o ns k =
     let both = keeps_append false (to_eighth_fall o) (Rise o.7 ∷ []) ns k in
     and_serves (bits_shown a o t ns both.0) (eighth_rise_fetches a t (seven_levels a o) o.7 (drop 15 ns) both.1.0)
 
 -- any number of bytes
-pub three_wire_bytes_served : (a : ℕ) (t : Sent) (os : List Levels8) (ns : List Now) → Keeps false (read_bytes os) ns
+pub three_wire_bytes_served : (a : ℕ) (t : Option ℕ) (os : List Levels8) (ns : List Now) → Keeps false (read_bytes os) ns
     → Serves (first_shown a t) (read_bytes os) ns (three_wire_bytes a t os ns) (first_shown (register_after a os) (sent_after a t os ns))
 unfolding read_bytes three_wire_bytes register_after sent_after seen left
 three_wire_bytes_served a t [] ns k = record { is_seen = refl; is_left = refl }

@@ -1,10 +1,9 @@
+use Rattle.std.specs.Prelude.{Option, None}
 use Prim.Native.Nat.{ℕ, ◌-◌}
 use mathlib.Core.Bool.{cond}
 use mathlib.Core.List.{List}
 use lib.Dec.{eqb}
 use Rattle.sampling.specs.declared.types.Input.{Input}
-use Rattle.sampling.specs.declared.types.Test.{Test}
-use Rattle.sampling.specs.declared.types.Test.TheVariants.{Off}
 use mathlib.Core.Path.{◌≡◌}
 use borrow.Author.Tests.{eq-eqb}
 use Rattle.sampling.specs.declared.types.Acquisition.{Acquisition}
@@ -13,7 +12,7 @@ use borrow.Author.Rules.{rules}
 use Rattle.sampling.proofs.phase.axis_phase.Goals as goal
 
 -- without a self test the axis is measured, and after z the scan is complete
-off : (test : Test) (c d : Acquisition) (input : Input) (phase : ℕ) (rules : List ℕ) → test ≡ Off
+off : (test : Option ℕ) (c d : Acquisition) (input : Input) (phase : ℕ) (rules : List ℕ) → test ≡ None
     → d ≡ cond (eqb (phase - 1) 2) (observed (counted (measured c input (phase - 1))) rules) (measured c input (phase - 1))
     → d ≡ axis_phase test c input phase rules
 unfolding axis_phase scanned
