@@ -13,7 +13,7 @@ use crate::types::{Extra, Reply};
 use bma150::host::Bma150;
 use calls::types::{Outcome, Refusal};
 use deadlines::Deadline;
-use sensor::types::{Mark, Option<u8>};
+use sensor::types::{Mark };
 use spi::types::Drive;
 use waits::types::Report;
 

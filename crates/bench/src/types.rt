@@ -1,7 +1,7 @@
 // What a command leaves and answers, before it is written.
 use bma150::host::Bma150;
 use calls::types::Outcome;
-use sensor::types::{Mark, Option<u8>};
+use sensor::types::{Mark };
 use waits::types::Report;
 
 // What a command adds to its line. An image stands beside it.

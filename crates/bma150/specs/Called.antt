@@ -83,7 +83,7 @@ effect s now Timed.Falling = without_report (falling_at s now)
 effect s now (Timed.Pins before after) = without_report (with_lines (i2c_pins_at s before after now) after)
 
 -- supply and due calls report
-unfoldable pub timed_adds : Timed → Report → Added
+unfoldable pub timed_adds : Timed → Option Report → Added
 timed_adds (Timed.Accelerations x y z) r = Added.nothing
 timed_adds (Timed.Supply rail) r = Added.report (report_values r)
 timed_adds Timed.Due r = Added.report (report_values r)

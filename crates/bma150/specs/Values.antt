@@ -11,10 +11,10 @@ drive_letter Drive.Low = 0x4c
 drive_letter Drive.High = 0x48
 
 -- `C aa vv` (completed), `X aa vv` (cut) or nothing
-unfoldable pub report_values : Report → List ℕ
-report_values Report.Nothing = []
-report_values (Report.Completed address byte) = 0x43 ∷ address ∷ byte ∷ []
-report_values (Report.Cut address byte) = 0x58 ∷ address ∷ byte ∷ []
+unfoldable pub report_values : Option Report → List ℕ
+report_values None = []
+report_values (Some (Report.Completed address byte)) = 0x43 ∷ address ∷ byte ∷ []
+report_values (Some (Report.Cut address byte)) = 0x58 ∷ address ∷ byte ∷ []
 
 -- the byte or its absence
 unfoldable pub view_value : Option ℕ → Option ℕ
@@ -22,7 +22,7 @@ view_value (Some b) = Some b
 view_value None = None
 
 -- m (mean), s (single) or no mark
-unfoldable pub mark_letter : Mark → Option ℕ
-mark_letter Mark.Mean = Some 0x6d
-mark_letter Mark.Single = Some 0x73
-mark_letter Mark.Nothing = None
+unfoldable pub mark_letter : Option Mark → Option ℕ
+mark_letter (Some Mark.Mean) = Some 0x6d
+mark_letter (Some Mark.Single) = Some 0x73
+mark_letter None = None

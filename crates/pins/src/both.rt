@@ -2,7 +2,7 @@
 use i2c::types::State;
 use registers::access::{Gate, ignores, stored, withheld};
 use registers::fields::{SOFT_RESET, SPI4, has};
-use spi::types::{Drive, Frame, Option<u8>};
+use spi::types::{Drive, Frame };
 
 // `operation` is the stored byte of register 15. `awake`: no soft reset since the start, so a sample is next. `consumed`,
 // `hidden` and `viewed` are what the last event answers beside the pins.

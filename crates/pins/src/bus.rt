@@ -4,7 +4,7 @@
 use crate::both::{Sensor, start};
 use i2c::types::{Action, Levels};
 use registers::fields::has;
-use spi::types::{Clocked, Option<u8>, Option<u8>, Shift, Write};
+use spi::types::{Clocked, Shift, Write};
 
 // The byte that I2C sends: ones where there is none.
 fn sent_byte(tx: Option<u8>) -> u8 {

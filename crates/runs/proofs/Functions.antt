@@ -1,5 +1,5 @@
 -- The code's replies are the definitions', there is one to every call, and no contract asks anything.
-use Rattle.std.specs.Prelude.{Option, Some}
+use Rattle.std.specs.Prelude.{Option, Some, None}
 use Prim.Native.Nat.{ℕ}
 use mathlib.Core.Path.{◌≡◌, refl, sym, ap, subst, ◌∙◌}
 use mathlib.Core.Bool.{Bool, true, false, cond}
@@ -150,22 +150,22 @@ abbrev altered_at : List ℕ → MutBor (List ℕ)
 altered_at l = record { ref_ptr = (0, 0); ghost_name = 0; now = l }
 
 -- a report with these values
-timed_report : (t : Timed) (q : Report) → (r : Report) × (report_values r ≡ reported (timed_adds t q))
+timed_report : (t : Timed) (q : Option Report) → (r : Option Report) × (report_values r ≡ reported (timed_adds t q))
 unfolding timed_adds reported report_values
-timed_report (Timed.Accelerations x y z) q = (Report.Nothing, refl)
+timed_report (Timed.Accelerations x y z) q = (None, refl)
 timed_report (Timed.Supply rail) q = (q, refl)
 timed_report Timed.Due q = (q, refl)
-timed_report (Timed.Rising mosi) q = (Report.Nothing, refl)
-timed_report Timed.Falling q = (Report.Nothing, refl)
-timed_report (Timed.Pins before after) q = (Report.Nothing, refl)
+timed_report (Timed.Rising mosi) q = (None, refl)
+timed_report Timed.Falling q = (None, refl)
+timed_report (Timed.Pins before after) q = (None, refl)
 
-report_of : (s : Bma150) (now : Time) (t : Timed) → (r : Report) × (report_values r ≡ reported (called s (Call.At now t)).adds)
+report_of : (s : Bma150) (now : Time) (t : Timed) → (r : Option Report) × (report_values r ≡ reported (called s (Call.At now t)).adds)
 unfolding T.unless_refused adds reported report_values
 report_of s now t = go (eqb (number s (Call.At now t)) 0)
   where
-    go : (b : Bool) → (r : Report) × (report_values r ≡ reported (cond b (timed_adds t (served s now t).report) Added.nothing))
+    go : (b : Bool) → (r : Option Report) × (report_values r ≡ reported (cond b (timed_adds t (served s now t).report) Added.nothing))
     go true = timed_report t (served s now t).report
-    go false = (Report.Nothing, refl)
+    go false = (None, refl)
 
 pub replies : (s : Bma150) (c : Call) → (t : Bma150) × (a : Answer) × Serves s c t a
 replies s (Call.At now t) =

@@ -1,5 +1,5 @@
 -- The code as a host: the replies that the contracts of its public functions allow; that each contract is met on the machine; and that none asks anything.
-use Rattle.std.specs.Prelude.{ℕ, ◌≡◌, Bool, List, ℤ, length, Option}
+use Rattle.std.specs.Prelude.{ℕ, ◌≡◌, Bool, List, ℤ, length, Option, None}
 use seplogic.Ra.Ura.{Ura}
 use base.Logic.{SProp, emp}
 use prog.Memory.{Memory}
@@ -105,7 +105,7 @@ abbrev pub answered : ℕ → Added → Pins → Answer
 answered n a o = record { number = n; interrupt = o.interrupt; output = o.output; data_output = o.data_output; adds = a; next_due = o.next_due }
 
 -- of a timed call: supply and due calls add their report, if they are accepted
-abbrev pub replied : Outcome → Timed → Report → Pins → Answer
+abbrev pub replied : Outcome → Timed → Option Report → Pins → Answer
 replied u t r o = answered (T.number u) (T.unless_refused (T.number u) Added.nothing (timed_adds t r)) o
 
 -- of a call without a refusal
@@ -122,7 +122,7 @@ pub data Serves : Bma150 → Call → Bma150 → Answer → Type 0 where
       → Serves s (Call.At now t) r.sensor (replied r.outcome t r.report o)
   accelerations : {s : Bma150} {now : Time} {x y z : ℤ} (r : Replied) (o : Pins)
       → accelerations_reads.Post tt (s, (now, (x, (y, (z, tt))))) r (s, (now, (x, (y, (z, tt))))) → Observed r.sensor o
-      → Serves s (Call.At now (Timed.Accelerations x y z)) r.sensor (replied r.outcome (Timed.Accelerations x y z) Report.Nothing o)
+      → Serves s (Call.At now (Timed.Accelerations x y z)) r.sensor (replied r.outcome (Timed.Accelerations x y z) None o)
   temperature : {s : Bma150} {m : ℤ} (t : Bma150) (o : Pins) → temperature_reads.Post tt (s, (m, tt)) t (s, (m, tt)) → Observed t o
       → Serves s (Call.Temperature m) t (accepted Added.nothing o)
   supply : {s : Bma150} {now : Time} {rail : ℕ} (r : Reported) (o : Pins) → supply_reads.Post tt (s, (now, (rail, tt))) r (s, (now, (rail, tt))) → Observed r.sensor o
@@ -134,14 +134,14 @@ pub data Serves : Bma150 → Call → Bma150 → Answer → Type 0 where
   select : {s : Bma150} {on : Bool} (t : Bma150) (o : Pins) → select_reads.Post tt (s, (on, tt)) t (s, (on, tt)) → Observed t o
       → Serves s (Call.Select on) t (accepted Added.nothing o)
   rising : {s : Bma150} {now : Time} {mosi : Bool} (r : Replied) (o : Pins) → rising_reads.Post tt (s, (now, (mosi, tt))) r (s, (now, (mosi, tt))) → Observed r.sensor o
-      → Serves s (Call.At now (Timed.Rising mosi)) r.sensor (replied r.outcome (Timed.Rising mosi) Report.Nothing o)
+      → Serves s (Call.At now (Timed.Rising mosi)) r.sensor (replied r.outcome (Timed.Rising mosi) None o)
   falling : {s : Bma150} {now : Time} (r : Replied) (o : Pins) → falling_reads.Post tt (s, (now, tt)) r (s, (now, tt)) → Observed r.sensor o
-      → Serves s (Call.At now Timed.Falling) r.sensor (replied r.outcome Timed.Falling Report.Nothing o)
+      → Serves s (Call.At now Timed.Falling) r.sensor (replied r.outcome Timed.Falling None o)
   pins : {s : Bma150} {now : Time} {before after : Levels} (r : Replied) (o : Pins)
       → pins_reads.Post tt (s, (now, (before, (after, tt)))) r (s, (now, (before, (after, tt)))) → Observed r.sensor o
-      → Serves s (Call.At now (Timed.Pins before after)) r.sensor (replied r.outcome (Timed.Pins before after) Report.Nothing o)
+      → Serves s (Call.At now (Timed.Pins before after)) r.sensor (replied r.outcome (Timed.Pins before after) None o)
   pins_lent : {s : Bma150} {now : Time} {before after : Levels} (t : Bma150) (r : Outcome) (o : Pins) → PinsLent s now before after t r → Observed t o
-      → Serves s (Call.At now (Timed.Pins before after)) t (replied r (Timed.Pins before after) Report.Nothing o)
+      → Serves s (Call.At now (Timed.Pins before after)) t (replied r (Timed.Pins before after) None o)
   view : {s : Bma150} {address : ℕ} (r : Viewed) (o : Pins) → view_reads.Post tt (s, (address, tt)) r (s, (address, tt)) → Observed s o
       → Serves s (Call.View address) s (accepted (of_view r) o)
   stored_image : {s : Bma150} {now : Time} {n : ℕ} (κs : Lfts 1) (lent left : MutBor (List ℕ)) (r : Outcome) (o : Pins) → length lent.now ≡ n

@@ -7,7 +7,7 @@ ghost use Rattle.control.specs.Lengths.{acquisition_cycles};
 ghost use Rattle.sampling.specs.Split as Split;
 ghost use Rattle.sampling.specs.Phase as P;
 
-use crate::types::{Acquisition, AcquisitionScalars, Input, Sampling, Option<u8>};
+use crate::types::{Acquisition, AcquisitionScalars, Input, Sampling};
 use analog::types::Axis;
 use control::lengths::acquisition_cycles;
 use registers::codes::{code, code_high, code_low, offset, temperature};
@@ -20,13 +20,11 @@ use registers::fields::{
 fn axis_input(input: Input, axis: u8) -> i32
     ensures { result ≡ P.axis_input input axis }
 {
-    if axis == 0 {
-        return input.x;
+    match axis {
+        0 => input.x,
+        1 => input.y,
+        _ => input.z,
     }
-    if axis == 1 {
-        return input.y;
-    }
-    input.z
 }
 
 #[tactic(auto, unfolding(crate::specs::Phase::converted))]
@@ -38,11 +36,9 @@ fn converted(registers: &[u8; 62], acceleration: i64, axis: u8) -> i16
         return 0;
     }
     let a = axis as usize;
-    let low = registers[OFFSET_LSB + a];
-    let high = registers[OFFSET_MSB + a];
     code(
         acceleration,
-        offset(low, high),
+        offset(registers[OFFSET_LSB + a], registers[OFFSET_MSB + a]),
         range(registers[MEASUREMENT]),
     )
 }
@@ -51,72 +47,39 @@ fn converted(registers: &[u8; 62], acceleration: i64, axis: u8) -> i16
 fn all_new(registers: [u8; 62]) -> bool
     ensures { result ≡ P.all_new registers }
 {
-    if has(registers[ACC_LSB], NEW_DATA) {
-        if has(registers[ACC_LSB + 2], NEW_DATA) {
-            return has(registers[ACC_LSB + 4], NEW_DATA);
-        }
-    }
-    false
+    has(registers[ACC_LSB], NEW_DATA)
+        && has(registers[ACC_LSB + 2], NEW_DATA)
+        && has(registers[ACC_LSB + 4], NEW_DATA)
 }
 
 #[tactic(auto, unfolding(crate::specs::Phase::ready))]
 fn ready(registers: [u8; 62], old: bool) -> bool
     ensures { result ≡ P.ready registers old }
 {
-    if has(registers[OPERATION], NEW_DATA_INT) {
-        if all_new(registers) {
-            return true;
-        }
-    }
-    old
+    has(registers[OPERATION], NEW_DATA_INT) && all_new(registers) || old
 }
 
-fn one_more(cycles: u16) -> u16
-    ensures { result ≡ min (cycles + 1) 65535 }
-{
-    if cycles < 65535 {
-        return cycles + 1;
-    }
-    65535
-}
-
+// One phase less of a self test that runs.
 #[tactic(auto, unfolding(crate::specs::Phase::test_counted))]
 fn test_counted(test: Option<u8>) -> Option<u8>
     ensures { result ≡ P.test_counted test }
 {
-    match test {
-        None => None,
-        Some(n) => Some(one_less(n)),
-    }
-}
-
-fn one_less(n: u8) -> u8
-    ensures { result ≡ P.one_less n }
-{
-    if n < 1 {
-        return 0;
-    }
-    n - 1
+    test.map(|n| n.saturating_sub(1))
 }
 
 // Whether the scans are observed, by the byte of 15, the window and the scans since the wake.
 fn observing(operation: u8, window: u8, cycles: u16) -> bool
     ensures { result ≡ (not (wake_up operation) || leb (acquisition_cycles window) cycles) }
 {
-    if has(operation, WAKE_UP) {
-        return acquisition_cycles(window) <= cycles;
-    }
-    true
+    !has(operation, WAKE_UP) || acquisition_cycles(window) <= cycles
 }
 
 // One scan in so many counts as an observation.
 fn interval(operation: u8, window: u8, cycles: u16) -> u8
     ensures { result ≡ cond (wake_up operation && eqb cycles (acquisition_cycles window)) 1 window }
 {
-    if has(operation, WAKE_UP) {
-        if cycles == acquisition_cycles(window) {
-            return 1;
-        }
+    if has(operation, WAKE_UP) && cycles == acquisition_cycles(window) {
+        return 1;
     }
     window
 }
@@ -126,29 +89,13 @@ impl Sampling {
     pub fn acquired(self) -> bool
         ensures { result ≡ P.acquired self }
     {
-        let f = self.filter;
-        acquisition_cycles(f.window()) <= self.auto_cycles
+        acquisition_cycles(self.filter.window()) <= self.auto_cycles
     }
 
     pub fn with_test(self, test: Option<u8>) -> Sampling
         ensures { result ≡ P.with_test self test }
     {
-        let f = self.filter;
-        let codes = self.filtered;
-        let means = self.means;
-        let clock = self.clock;
-        let analog = self.analog;
-        Sampling {
-            filter: f,
-            filtered: codes,
-            means: means,
-            clock: clock,
-            analog: analog,
-            asleep: self.asleep,
-            auto_cycles: self.auto_cycles,
-            test: test,
-            data_ready: self.data_ready,
-        }
+        Sampling { test, ..self }
     }
 }
 
@@ -156,10 +103,8 @@ impl Sampling {
 fn lagged(t: AcquisitionScalars, input: Input, axis: u8) -> Axis
     ensures { result ≡ Ax.advanced (Ax.axis_of t.analog axis) (C.last t.clock) (P.axis_input input axis) }
 {
-    let clock = t.clock;
-    let analog = t.analog;
-    let a = analog.axis(axis);
-    a.sample(clock.last(), axis_input(input, axis))
+    let a = t.analog.axis(axis);
+    a.sample(t.clock.last(), axis_input(input, axis))
 }
 
 // A code of an axis is filtered, and the answer shown.
@@ -174,23 +119,14 @@ fn filtered_code(
     ensures { Split.joined registers.new history.new result ≡ P.filtered_code (Split.joined registers.old history.old t) axis k }
 {
     let a = axis as usize;
-    let places = t.places;
-    let p = places.push(history, axis, k);
-    let answer = p.code;
-    registers[ACC_LSB + a * 2] = code_low(answer);
-    registers[ACC_MSB + a * 2] = code_high(answer);
+    let p = t.places.push(history, axis, k);
+    registers[ACC_LSB + a * 2] = code_low(p.code);
+    registers[ACC_MSB + a * 2] = code_high(p.code);
     let mut u = t;
-    let q = p.places;
-    u.places = q;
-    let mut codes = t.filtered;
-    codes[a] = answer;
-    u.filtered = codes;
-    let mut means = t.means;
-    means[a] = p.full;
-    u.means = means;
-    let i = t.interrupts;
-    let r = *registers;
-    u.interrupts = i.axis(axis, answer, r);
+    u.places = p.places;
+    u.filtered[a] = p.code;
+    u.means[a] = p.full;
+    u.interrupts = t.interrupts.axis(axis, p.code, *registers);
     u
 }
 
@@ -216,18 +152,15 @@ fn measured(
 fn scanned(registers: &[u8; 62], t: AcquisitionScalars, needs: [u8; 4]) -> AcquisitionScalars
     ensures { (h : List ℤ) → Split.joined registers.now h result ≡ P.observed (P.counted (Split.joined registers.now h t)) needs }
 {
-    let r = *registers;
-    let operation = r[OPERATION];
-    let places = t.places;
-    let window = places.window();
+    let operation = registers[OPERATION];
+    let window = t.places.window();
+    let cycles = t.auto_cycles.saturating_add(1);
     let mut u = t;
-    u.data_ready = ready(r, t.data_ready);
-    u.auto_cycles = one_more(t.auto_cycles);
-    if observing(operation, window, u.auto_cycles) {
-        let i = t.interrupts;
-        let codes = t.filtered;
-        u.interrupts = i.cycle(codes, interval(operation, window, u.auto_cycles), r, needs);
-        return u;
+    u.data_ready = ready(*registers, t.data_ready);
+    u.auto_cycles = cycles;
+    if observing(operation, window, cycles) {
+        let apart = interval(operation, window, cycles);
+        u.interrupts = t.interrupts.cycle(t.filtered, apart, *registers, needs);
     }
     u
 }
@@ -235,10 +168,8 @@ fn scanned(registers: &[u8; 62], t: AcquisitionScalars, needs: [u8; 4]) -> Acqui
 fn test_ended(registers: &mut [u8; 62], t: AcquisitionScalars) -> AcquisitionScalars
     ensures { (h : List ℤ) → Split.joined registers.new h result ≡ P.test_ended (Split.joined registers.old h t) }
 {
-    let control = registers[CONTROL] & 0xfb;
-    let status = registers[STATUS] | 0x80;
-    registers[CONTROL] = control;
-    registers[STATUS] = status;
+    registers[CONTROL] &= 0xfb;
+    registers[STATUS] |= 0x80;
     t.with_test(None)
 }
 
@@ -254,20 +185,17 @@ fn axis_phase(
     requires { (0 < phase) × (phase < 4) }
     ensures { Split.joined registers.new history.new result ≡ P.axis_phase t.test (Split.joined registers.old history.old t) input phase needs }
 {
-    let test = t.test;
-    match test {
+    match t.test {
         None => {
             let u = measured(registers, history, t, input, phase - 1);
-            if phase - 1 == 2 {
+            if phase == 3 {
                 return scanned(registers, u, needs);
             }
             u
         }
         Some(left) => {
-            if phase == 3 {
-                if left == 0 {
-                    return test_ended(registers, t);
-                }
+            if phase == 3 && left == 0 {
+                return test_ended(registers, t);
             }
             t
         }
@@ -285,10 +213,8 @@ fn sample_phase(
 ) -> AcquisitionScalars
     ensures { Split.joined registers.new history.new result ≡ P.sample_phase (Split.joined registers.old history.old t) input needs }
 {
-    let clock = t.clock;
-    let test = t.test;
-    let phase = ((clock.ordinal % 4 + 3) % 4) as u8;
-    let u = t.with_test(test_counted(test));
+    let phase = ((t.clock.ordinal % 4 + 3) % 4) as u8;
+    let u = t.with_test(test_counted(t.test));
     if phase == 0 {
         registers[TEMP] = temperature(input.temperature_millicelsius);
         return u;
@@ -301,18 +227,13 @@ fn sample_phase(
 fn ticked(registers: &[u8; 62], t: AcquisitionScalars) -> AcquisitionScalars
     ensures { (h : List ℤ) → Split.joined registers.now h result ≡ P.ticked (Split.joined registers.now h t) }
 {
-    let clock = t.clock;
-    if clock.ordinal % 12 == 0 {
-        let places = t.places;
-        if observing(registers[OPERATION], places.window(), t.auto_cycles) {
-            let i = t.interrupts;
-            let r = *registers;
-            let mut u = t;
-            u.interrupts = i.millisecond(r);
-            return u;
-        }
+    let mut u = t;
+    if t.clock.ordinal % 12 == 0
+        && observing(registers[OPERATION], t.places.window(), t.auto_cycles)
+    {
+        u.interrupts = t.interrupts.millisecond(*registers);
     }
-    t
+    u
 }
 
 // The clock's next edge: its phase, and the millisecond.
@@ -326,9 +247,8 @@ fn sample(
 ) -> AcquisitionScalars
     ensures { Split.joined registers.new history.new result ≡ P.sample input needs (Split.joined registers.old history.old t) }
 {
-    let clock = t.clock;
     let mut u = t;
-    u.clock = clock.advance(1);
+    u.clock = t.clock.advance(1);
     let v = sample_phase(registers, history, u, input, needs);
     ticked(registers, v)
 }
@@ -339,14 +259,11 @@ impl Acquisition {
     pub fn samples(self, n: u64, input: Input, needs: [u8; 4]) -> Acquisition
         ensures { result ≡ P.samples n self input needs }
     {
-        let s = self.sampling;
-        let f = s.filter;
         let mut registers = self.registers;
-        let mut history = f.history();
+        let mut history = self.sampling.filter.history();
         let mut t = self.scalars();
         for _ in 0..n {
-            let u = sample(&mut registers, &mut history, t, input, needs);
-            t = u;
+            t = sample(&mut registers, &mut history, t, input, needs);
         }
         t.joined(registers, history)
     }

@@ -11,9 +11,7 @@ impl Sampling {
     fn with_analog(self, analog: Analog) -> Sampling
         ensures { result ≡ P.with_analog self analog }
     {
-        let mut s = self;
-        s.analog = analog;
-        s
+        Sampling { analog, ..self }
     }
 
     pub fn rest(self, now: Time) -> Sampling
@@ -25,8 +23,7 @@ impl Sampling {
     pub fn resume(self, now: Time) -> Sampling
         ensures { result ≡ S.resumed self now }
     {
-        let a = self.analog;
-        self.with_analog(a.resume(now))
+        self.with_analog(self.analog.resume(now))
     }
 
     #[tactic(auto, unfolding(crate::specs::Stage::held))]
@@ -36,8 +33,7 @@ impl Sampling {
         if self.asleep {
             return self;
         }
-        let a = self.analog;
-        self.with_analog(a.hold(now, input.x, input.y, input.z))
+        self.with_analog(self.analog.hold(now, input.x, input.y, input.z))
     }
 
     #[tactic(auto, unfolding(crate::specs::Stage::turned))]
@@ -47,7 +43,6 @@ impl Sampling {
         if self.asleep {
             return self;
         }
-        let a = self.analog;
-        self.with_analog(a.turn(now, input.x, input.y, input.z, x, y, z))
+        self.with_analog(self.analog.turn(now, input.x, input.y, input.z, x, y, z))
     }
 }

@@ -13,14 +13,7 @@ pub struct Input {
     pub temperature_millicelsius: i32,
 }
 
-// The self test, and how many phases it still lasts (the Rust's `test_phases`).
-#[derive(Clone, Copy)]
-pub enum Test {
-    Off,
-    Phases(u8),
-}
-
-// `means` says of each axis whether the value that it shows is the mean of a full window or a single code.
+// `test` tells how many phases the self test still lasts, while it runs (the Rust's `test_phases`). `means` says of each axis whether the value that it shows is the mean of a full window or a single code.
 #[derive(Clone, Copy)]
 pub struct Sampling {
     pub filter: Filter,

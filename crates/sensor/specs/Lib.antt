@@ -1,3 +1,4 @@
+pub mod Operation
 pub mod Record
 pub mod Image
 pub mod Mode

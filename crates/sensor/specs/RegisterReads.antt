@@ -22,15 +22,15 @@ peek s address =
     if withheld address (gate s) then None else Some (shown s address)
 
 -- the mark of an acceleration's registers 02 to 07: whether the value that its axis shows is the mean of a full window; no other register has one
-unfoldable pub mark : Sensor → (address : Address) → Mark
+unfoldable pub mark : Sensor → (address : Address) → Option Mark
 mark s address =
-    if not (R.is_acceleration address) then Mark.Nothing
-    else if get_or s.sampling.means (R.axis_of address) false then Mark.Mean else Mark.Single
+    if not (R.is_acceleration address) then None
+    else if get_or s.sampling.means (R.axis_of address) false then Some Mark.Mean else Some Mark.Single
 
 -- where the byte is withheld there is no mark
-unfoldable pub mark_of : Option ℕ → Sensor → (address : Address) → Mark
+unfoldable pub mark_of : Option ℕ → Sensor → (address : Address) → Option Mark
 mark_of (Some b) s address = mark s address
-mark_of None s address = Mark.Nothing
+mark_of None s address = None
 
 -- what a view answers: the byte or its absence, and the mark
 abbrev pub viewed : Sensor → (address : Address) → Viewed

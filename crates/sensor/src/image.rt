@@ -2,16 +2,17 @@
 ghost use Rattle.std.specs.Prelude.{◌≡◌};
 ghost use Rattle.sensor.specs.Image as Im;
 
-use crate::types::{Kept, Operation, Sensor, Supply, Writing};
+use crate::types::{Kept, Sensor, Supply};
 use analog::types::Analog;
-use deadlines::{Deadline, Deadlines};
+use deadlines::{Deadlines, Wait};
 use filter::Filter;
 use i2c::types::{Levels, State};
 use interrupts::Interrupts;
+use nv::WriteCycle;
 use reads::Reads;
 use registers::access::stored;
 use registers::fields::{CHIP_ID, MEASUREMENT, OPERATION, SHADOW_DIS, VERSION, bandwidth, has};
-use sampling::types::{Input, Sampling, Option<u8>};
+use sampling::types::{Input, Sampling};
 use spi::types::Frame;
 use time::{Clock, Duration, Time};
 
@@ -29,26 +30,23 @@ pub fn cell_byte(image: [u8; 19], address: u8) -> u8
 pub fn with_cell(image: [u8; 19], address: u8, value: u8) -> [u8; 19]
     ensures { result ≡ Im.with_cell image address value }
 {
-    let mut i = image;
+    let mut changed = image;
     if stored(address) {
-        i[(address - 0x2b) as usize] = value;
-        return i;
+        changed[(address - 0x2b) as usize] = value;
     }
-    i
+    changed
 }
 
 #[tactic(auto, unfolding(crate::specs::Image::image_at))]
 fn image_at(operation: Option<(WriteCycle, u8, u8)>, image: [u8; 19], now: Time) -> [u8; 19]
     ensures { result ≡ Im.image_at operation image now }
 {
-    match operation {
-        None => image,
-        Some((w, address, value)) => {
-            let old = cell_byte(image, address);
-            let byte = w.byte(old, value, 0x20000 + address as u32, now);
-            with_cell(image, address, byte)
-        }
-    }
+    let Some((w, address, value)) = operation else {
+        return image;
+    };
+    let old = cell_byte(image, address);
+    let byte = w.byte(old, value, 0x20000 + address as u32, now);
+    with_cell(image, address, byte)
 }
 
 // The image in the registers 0b..1d.
@@ -56,11 +54,7 @@ fn image_copied(registers: [u8; 62], image: [u8; 19]) -> [u8; 62]
     ensures { result ≡ Im.image_copied registers image }
 {
     let mut r = registers;
-    let mut i: usize = 0;
-    while i < 19 {
-        r[11 + i] = image[i];
-        i += 1;
-    }
+    r[11..30].copy_from_slice(&image);
     r
 }
 
@@ -111,9 +105,8 @@ fn fresh_sampling(now: Time) -> Sampling
 fn acquiring(now: Time) -> Deadlines
     ensures { result ≡ Im.acquiring now }
 {
-    let d = Deadlines::never();
     let length = control::lengths::acquisition_delay(Duration::from_millis(3));
-    d.with_wake(Some(now.plus(length)))
+    Deadlines::never().with(Wait::Wake, Some(now.plus(length)))
 }
 
 // What a start keeps: 1 g on z, 20 degrees, both lines high.
@@ -130,10 +123,7 @@ fn new_kept() -> Kept
         scl: true,
         sda: true,
     };
-    Kept {
-        input: input,
-        lines: lines,
-    }
+    Kept { input, lines }
 }
 
 fn blank(now: Time, image: [u8; 19], kept: Kept) -> Sensor
@@ -145,12 +135,10 @@ fn blank(now: Time, image: [u8; 19], kept: Kept) -> Sensor
         frame: Frame::fresh(false),
         i2c: State::new(),
         reads: Reads::new(),
-        kept: kept,
+        kept,
         sampling: fresh_sampling(now),
         deadlines: acquiring(now),
-        writing: Writing {
-            operation: None,
-        },
+        writing: None,
         interrupts: Interrupts::new(),
         supply: Supply {
             unpowered_since: None,
@@ -163,11 +151,12 @@ fn blank(now: Time, image: [u8; 19], kept: Kept) -> Sensor
 pub fn powered(now: Time, image: [u8; 19], kept: Kept) -> Sensor
     ensures { result ≡ Im.powered now image kept }
 {
-    let b = blank(now, image, kept);
-    let mut s = b.copy_image();
-    let d = s.deadlines;
-    s.deadlines = d.with_serial_ready(Some(now.plus(Duration::from_millis(3))));
-    s
+    let ready = now.plus(Duration::from_millis(3));
+    let s = blank(now, image, kept).copy_image();
+    Sensor {
+        deadlines: s.deadlines.with(Wait::SerialReady, Some(ready)),
+        ..s
+    }
 }
 
 impl Sensor {
@@ -175,50 +164,45 @@ impl Sensor {
     pub fn nonvolatile(self, now: Time) -> [u8; 19]
         ensures { result ≡ Im.nonvolatile self now }
     {
-        let writing = self.writing;
-        let operation = writing.operation;
-        let image = self.nonvolatile;
-        image_at(operation, image, now)
+        image_at(self.writing, self.nonvolatile, now)
     }
 
     // The registers are these; what follows from them is set.
     fn configured(self, registers: [u8; 62]) -> Sensor
         ensures { result ≡ Im.configured self registers }
     {
-        let mut s = self;
-        s.registers = registers;
-        let reads = s.reads;
-        s.reads = shadowing(reads, registers[OPERATION]);
-        let mut g = s.sampling;
-        let f = g.filter;
-        g.filter = f.select(bandwidth(registers[MEASUREMENT]));
-        s.sampling = g;
-        let i = s.interrupts;
-        s.interrupts = i.configure(registers);
-        s
+        let filter = self
+            .sampling
+            .filter
+            .select(bandwidth(registers[MEASUREMENT]));
+        Sensor {
+            registers,
+            reads: shadowing(self.reads, registers[OPERATION]),
+            sampling: Sampling {
+                filter,
+                ..self.sampling
+            },
+            interrupts: self.interrupts.configure(registers),
+            ..self
+        }
     }
 
     pub fn copy_image(self) -> Sensor
         ensures { result ≡ Im.copy_image self }
     {
-        let registers = self.registers;
-        let image = self.nonvolatile;
-        self.configured(image_copied(registers, image))
+        self.configured(image_copied(self.registers, self.nonvolatile))
     }
 
     // A start with these stored bytes.
     pub fn from_nonvolatile(now: Time, image: [u8; 19]) -> Sensor
         ensures { result ≡ Im.from_nonvolatile now image }
     {
-        let s = blank(now, image, new_kept());
-        s.copy_image()
+        blank(now, image, new_kept()).copy_image()
     }
 
     pub fn power_on(self, now: Time) -> Sensor
         ensures { result ≡ Im.power_on self now }
     {
-        let image = self.nonvolatile;
-        let kept = self.kept;
-        powered(now, image, kept)
+        powered(now, self.nonvolatile, self.kept)
     }
 }

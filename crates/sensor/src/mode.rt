@@ -3,40 +3,40 @@ ghost use Rattle.std.specs.Prelude.{◌≡◌};
 ghost use Rattle.sensor.specs.Mode as C;
 
 use crate::image::reset_registers;
-use crate::record::tests;
 use crate::types::Sensor;
 use control::automatic::{Activity, holds, may_pause, pauses_again};
 use control::lengths::{acquisition_delay, pause_length, pauses};
-use deadlines::Deadline;
+use deadlines::Wait;
 use filter::Filter;
 use i2c::types::State;
 use interrupts::Interrupts;
 use registers::fields::{
     LATCH_INT, MEASUREMENT, NEW_DATA_INT, OPERATION, bandwidth, has, wake_up_pause,
 };
-use sampling::types::{Sampling, Option<u8>};
-use spi::types::Sent;
+use sampling::types::Sampling;
 use time::{Duration, Time};
 
 fn acquiring(sampling: Sampling, b: u8, now: Time) -> Sampling
     ensures { result ≡ C.acquiring sampling b now }
 {
-    let mut g = sampling.resume(now);
-    g.filter = Filter::new(b);
-    g.asleep = false;
-    g.auto_cycles = 0;
-    g
+    Sampling {
+        filter: Filter::new(b),
+        asleep: false,
+        auto_cycles: 0,
+        ..sampling.resume(now)
+    }
 }
 
 fn cleared(sampling: Sampling, now: Time) -> Sampling
     ensures { result ≡ C.cleared sampling now }
 {
-    let h = sampling.rest(now);
-    let mut g = h.with_test(None);
-    g.filtered = [0; 3];
-    g.means = [false; 3];
-    g.data_ready = false;
-    g
+    Sampling {
+        filtered: [0; 3],
+        means: [false; 3],
+        test: None,
+        data_ready: false,
+        ..sampling.rest(now)
+    }
 }
 
 #[tactic(auto, unfolding(crate::specs::Mode::reset_time))]
@@ -53,17 +53,18 @@ impl Sensor {
     pub fn start_acquisition(self, now: Time, ready: Duration) -> Sensor
         ensures { result ≡ C.start_acquisition self now ready }
     {
-        let d = self.deadlines;
-        let e = d.with_pause(None);
-        let mut s = self;
-        s.deadlines = e.with_wake(Some(now.plus(acquisition_delay(ready))));
-        let g = s.sampling;
-        s.sampling = acquiring(g, bandwidth(s.registers[MEASUREMENT]), now);
-        let r = s.reads;
-        s.reads = r.release();
-        let i = s.interrupts;
-        s.interrupts = i.restart_acquisition();
-        s
+        let scan = now.plus(acquisition_delay(ready));
+        let bandwidth = bandwidth(self.registers[MEASUREMENT]);
+        Sensor {
+            reads: self.reads.release(),
+            sampling: acquiring(self.sampling, bandwidth, now),
+            deadlines: self
+                .deadlines
+                .with(Wait::Pause, None)
+                .with(Wait::Wake, Some(scan)),
+            interrupts: self.interrupts.restart_acquisition(),
+            ..self
+        }
     }
 
     fn pause_of(self) -> Duration
@@ -85,37 +86,26 @@ impl Sensor {
     pub fn pause(self, now: Time) -> Sensor
         ensures { result ≡ C.pause self now }
     {
-        let d = self.deadlines;
-        let e = d.with_wake(None);
-        let mut s = self;
-        s.deadlines = e.with_pause(self.pause_end(now));
-        let k = s.kept;
-        let i = k.input;
-        let h = s.sampling;
-        let mut g = h.hold(now, i);
-        g.asleep = true;
-        s.sampling = g;
-        let f = s.frame;
-        s.frame = f.released();
-        s
+        Sensor {
+            frame: self.frame.released(),
+            sampling: Sampling {
+                asleep: true,
+                ..self.sampling.hold(now, self.kept.input)
+            },
+            deadlines: self
+                .deadlines
+                .with(Wait::Wake, None)
+                .with(Wait::Pause, self.pause_end(now)),
+            ..self
+        }
     }
 
     // The hold of automatic mode, new data, or a criterion.
-    #[tactic(auto, unfolding(crate::specs::Mode::interrupt))]
+    #[tactic(auto, unfolding(crate::specs::Mode::interrupt, deadlines::specs::Deadlines::is_set))]
     pub fn interrupt(self) -> bool
         ensures { result ≡ C.interrupt self }
     {
-        let registers = self.registers;
-        let d = self.deadlines;
-        let hold = d.irq_hold;
-        if hold.is_set() {
-            return true;
-        }
-        if self.shows_new_data() {
-            return true;
-        }
-        let i = self.interrupts;
-        i.output(registers)
+        self.deadlines.irq_hold.is_some() || self.shows_new_data() || self.criterion()
     }
 
     // Whether a scan of new data shows.
@@ -123,30 +113,21 @@ impl Sensor {
     fn shows_new_data(self) -> bool
         ensures { result ≡ C.shows_new_data self }
     {
-        let g = self.sampling;
-        if g.data_ready {
-            return has(self.registers[OPERATION], NEW_DATA_INT);
-        }
-        false
+        self.sampling.data_ready && has(self.registers[OPERATION], NEW_DATA_INT)
     }
 
     // Whether a criterion shows.
     pub fn criterion(self) -> bool
         ensures { result ≡ C.criterion self }
     {
-        let registers = self.registers;
-        let i = self.interrupts;
-        i.output(registers)
+        self.interrupts.output(self.registers)
     }
 
-    #[tactic(auto, unfolding(crate::specs::Mode::pause_restarted))]
+    #[tactic(auto, unfolding(crate::specs::Mode::pause_restarted, deadlines::specs::Deadlines::is_set))]
     fn pause_restarted(self, now: Time) -> Sensor
         ensures { result ≡ C.pause_restarted self now }
     {
-        let d = self.deadlines;
-        let p = d.pause;
-        let g = self.sampling;
-        if pauses_again(g.asleep, p.is_set()) {
+        if pauses_again(self.sampling.asleep, self.deadlines.pause.is_some()) {
             return self.pause(now);
         }
         self
@@ -156,15 +137,13 @@ impl Sensor {
     fn interrupt_held(self, now: Time, was_criterion: bool) -> Sensor
         ensures { result ≡ C.interrupt_held self now was_criterion }
     {
-        if holds(
-            was_criterion,
-            has(self.registers[OPERATION], LATCH_INT),
-            self.criterion(),
-        ) {
-            let d = self.deadlines;
-            let mut s = self;
-            s.deadlines = d.with_irq_hold(Some(now.plus(Duration::from_micros(330))));
-            return s;
+        let latch = has(self.registers[OPERATION], LATCH_INT);
+        if holds(was_criterion, latch, self.criterion()) {
+            let end = now.plus(Duration::from_micros(330));
+            return Sensor {
+                deadlines: self.deadlines.with(Wait::IrqHold, Some(end)),
+                ..self
+            };
         }
         self
     }
@@ -172,25 +151,20 @@ impl Sensor {
     fn verifying(self) -> bool
         ensures { result ≡ C.verifies self }
     {
-        let registers = self.registers;
-        let i = self.interrupts;
-        i.verifying(registers)
+        self.interrupts.verifying(self.registers)
     }
 
+    #[tactic(auto, unfolding(crate::specs::Record::tests, deadlines::specs::Deadlines::is_set))]
     fn activity(self) -> Activity
         ensures { result ≡ C.activity self }
     {
-        let d = self.deadlines;
-        let wake = d.wake;
-        let g = self.sampling;
-        let test = g.test;
         Activity {
-            asleep: g.asleep,
-            waking: wake.is_set(),
-            testing: tests(test),
+            asleep: self.sampling.asleep,
+            waking: self.deadlines.wake.is_some(),
+            testing: self.sampling.test.is_some(),
             copying: self.is_copying(),
             writing: self.is_writing(),
-            acquired: g.acquired(),
+            acquired: self.sampling.acquired(),
             interrupt: self.interrupt(),
             verifying: self.verifying(),
         }
@@ -215,11 +189,13 @@ impl Sensor {
     fn automatic_off(self) -> Sensor
         ensures { result ≡ C.automatic_off self }
     {
-        let d = self.deadlines;
-        let e = d.with_irq_hold(None);
-        let mut s = self;
-        s.deadlines = e.with_pause(None);
-        s
+        Sensor {
+            deadlines: self
+                .deadlines
+                .with(Wait::IrqHold, None)
+                .with(Wait::Pause, None),
+            ..self
+        }
     }
 
     #[tactic(auto, unfolding(crate::specs::Mode::automatic_control))]
@@ -227,9 +203,10 @@ impl Sensor {
         ensures { result ≡ C.automatic_control self now was_criterion verify }
     {
         if self.automatic() {
-            let a = self.pause_restarted(now);
-            let b = a.interrupt_held(now, was_criterion);
-            return b.pause_if_idle(now, verify);
+            return self
+                .pause_restarted(now)
+                .interrupt_held(now, was_criterion)
+                .pause_if_idle(now, verify);
         }
         self.automatic_off()
     }
@@ -238,38 +215,36 @@ impl Sensor {
         ensures { result ≡ C.reloaded self }
     {
         let registers = reset_registers();
-        let mut s = self;
-        s.registers = registers;
-        s.i2c = State::new();
-        s.interrupts = Interrupts::new();
+        let s = Sensor {
+            registers,
+            i2c: State::new(),
+            interrupts: Interrupts::new(),
+            ..self
+        };
         s.copy_image()
     }
 
     fn quieted(self, now: Time) -> Sensor
         ensures { result ≡ C.quieted self now }
     {
-        let mut s = self;
-        let g = s.sampling;
-        s.sampling = cleared(g, now);
-        let r = s.reads;
-        s.reads = r.forget();
-        let d = s.deadlines;
-        let e = d.with_irq_hold(None);
-        let h = e.with_image(None);
-        s.deadlines = h.with_quiet(Some(now.plus(Duration::from_micros(10))));
-        let f = s.frame;
-        let k = f.sending(None);
-        s.frame = k.released();
-        s
+        let end = now.plus(Duration::from_micros(10));
+        Sensor {
+            frame: self.frame.sending(None).released(),
+            reads: self.reads.forget(),
+            sampling: cleared(self.sampling, now),
+            deadlines: self
+                .deadlines
+                .with(Wait::IrqHold, None)
+                .with(Wait::Image, None)
+                .with(Wait::Quiet, Some(end)),
+            ..self
+        }
     }
 
     pub fn soft_reset(self, now: Time) -> Sensor
         ensures { result ≡ C.soft_reset self now }
     {
-        let g = self.sampling;
-        let ready = reset_time(g.asleep);
-        let a = self.reloaded();
-        let b = a.quieted(now);
-        b.start_acquisition(now, ready)
+        let ready = reset_time(self.sampling.asleep);
+        self.reloaded().quieted(now).start_acquisition(now, ready)
     }
 }

@@ -4,11 +4,11 @@ ghost use Rattle.reads.specs.declared.Prepared.{Prepared};
 ghost use Rattle.sensor.specs.RegisterReads as B;
 
 use crate::record::byte_at;
-use crate::types::{Fetched, Mark, Sensor, Option<u8>, Viewed};
+use crate::types::{Fetched, Mark, Sensor, Viewed};
 use reads::{Prepared, axis_of, is_acceleration, without_new_data};
 use registers::access::withheld;
 use registers::fields::{OPERATION, SHADOW_DIS, STATUS, has};
-use spi::types::Sent;
+use sampling::types::Sampling;
 
 // The address of the low byte of an acceleration.
 fn low_address(address: u8) -> u8
@@ -21,10 +21,7 @@ fn low_address(address: u8) -> u8
 fn is_mean(means: [bool; 3], axis: u8) -> bool
     ensures { result ≡ get_or means axis false }
 {
-    if axis < 3 {
-        return means[axis as usize];
-    }
-    false
+    axis < 3 && means[axis as usize]
 }
 
 impl Sensor {
@@ -32,14 +29,13 @@ impl Sensor {
     fn shown(self, address: u8) -> u8
         ensures { result ≡ B.shown self address }
     {
-        let registers = self.registers;
         if address == 9 {
-            let i = self.interrupts;
-            return registers[STATUS] | i.status();
+            return self.registers[STATUS] | self.interrupts.status();
         }
-        byte_at(registers, address)
+        byte_at(self.registers, address)
     }
 
+    // The byte that a register shows, or none where it is withheld.
     #[tactic(auto, unfolding(crate::specs::RegisterReads::peek))]
     pub fn peek(self, address: u8) -> Option<u8>
         ensures { result ≡ B.peek self address }
@@ -52,138 +48,96 @@ impl Sensor {
 
     // The mark of an acceleration's register.
     #[tactic(auto, unfolding(crate::specs::RegisterReads::mark))]
-    fn mark(self, address: u8) -> Mark
+    fn mark(self, address: u8) -> Option<Mark>
         ensures { result ≡ B.mark self address }
     {
         if !is_acceleration(address) {
-            return Mark::Nothing;
+            return None;
         }
-        let g = self.sampling;
-        let means = g.means;
-        if is_mean(means, axis_of(address)) {
-            return Mark::Mean;
+        if is_mean(self.sampling.means, axis_of(address)) {
+            return Some(Mark::Mean);
         }
-        Mark::Single
-    }
-
-    #[tactic(auto, unfolding(crate::specs::RegisterReads::mark_of))]
-    fn mark_of(self, view: Option<u8>, address: u8) -> Mark
-        ensures { result ≡ B.mark_of view self address }
-    {
-        match view {
-            Some(_) => self.mark(address),
-            None => Mark::Nothing,
-        }
+        Some(Mark::Single)
     }
 
     // What a view answers: the byte, and the mark of an acceleration.
+    #[tactic(auto, unfolding(crate::specs::RegisterReads::mark_of))]
     pub fn viewed(self, address: u8) -> Viewed
         ensures { result ≡ B.viewed self address }
     {
         let view = self.peek(address);
         Viewed {
-            view: view,
-            mark: self.mark_of(view, address),
+            view,
+            mark: view.and_then(|_| self.mark(address)),
         }
     }
 
     fn prepared(self, address: u8, viewed: u8) -> Prepared
         ensures { result ≡ B.prepared self address viewed }
     {
-        let registers = self.registers;
         let low = low_address(address);
-        let reads = self.reads;
-        reads.prepare(
+        self.reads.prepare(
             address,
             viewed,
-            byte_at(registers, low),
-            byte_at(registers, low + 1),
-            !has(registers[OPERATION], SHADOW_DIS),
+            byte_at(self.registers, low),
+            byte_at(self.registers, low + 1),
+            !has(self.registers[OPERATION], SHADOW_DIS),
         )
     }
 
     #[tactic(auto, unfolding(crate::specs::RegisterReads::fetched))]
-    fn fetched(self, view: Option<u8>, address: u8) -> Fetched
-        ensures { result ≡ B.fetched view self address }
-    {
-        let mut s = self;
-        match view {
-            Some(b) => {
-                let p = self.prepared(address, b);
-                let r = p.reads;
-                s.reads = r;
-                Fetched {
-                    sensor: s,
-                    sent: Some(p.byte),
-                }
-            }
-            None => {
-                let r = s.reads;
-                s.reads = r.drop();
-                Fetched {
-                    sensor: s,
-                    sent: None,
-                }
-            }
-        }
-    }
-
     pub fn prepare_read(self, address: u8) -> Fetched
         ensures { result ≡ B.prepare_read self address }
     {
-        let v = self.peek(address);
-        self.fetched(v, address)
+        let Some(byte) = self.peek(address) else {
+            return Fetched {
+                sensor: Sensor {
+                    reads: self.reads.drop(),
+                    ..self
+                },
+                sent: None,
+            };
+        };
+        let p = self.prepared(address, byte);
+        Fetched {
+            sensor: Sensor {
+                reads: p.reads,
+                ..self
+            },
+            sent: Some(p.byte),
+        }
     }
 
     fn acceleration_read(self, address: u8, sent: u8) -> Sensor
         ensures { result ≡ B.acceleration_read self address sent }
     {
-        let registers = self.registers;
         let low = low_address(address);
-        let byte = without_new_data(byte_at(registers, low));
-        let mut s = self.put(low, byte);
-        let reads = s.reads;
-        s.reads = reads.read_began(address, sent);
-        let mut g = s.sampling;
-        g.data_ready = false;
-        s.sampling = g;
-        s
+        let byte = without_new_data(byte_at(self.registers, low));
+        Sensor {
+            reads: self.reads.read_began(address, sent),
+            sampling: Sampling {
+                data_ready: false,
+                ..self.sampling
+            },
+            ..self.put(low, byte)
+        }
     }
 
     #[tactic(auto, unfolding(crate::specs::RegisterReads::counts_as_read))]
     fn counts_as_read(self, address: u8) -> bool
         ensures { result ≡ B.counts_as_read self address }
     {
-        let g = self.sampling;
-        if g.asleep {
-            return false;
-        }
-        if self.is_quiet() {
-            return false;
-        }
-        is_acceleration(address)
+        !self.sampling.asleep && !self.is_quiet() && is_acceleration(address)
     }
 
+    // The first bit of a register's byte was taken.
     #[tactic(auto, unfolding(crate::specs::RegisterReads::byte_read))]
-    fn byte_read(self, tx: Option<u8>, address: u8) -> Sensor
-        ensures { result ≡ B.byte_read tx self address }
-    {
-        match tx {
-            None => self,
-            Some(b) => {
-                if self.counts_as_read(address) {
-                    return self.acceleration_read(address, b);
-                }
-                self
-            }
-        }
-    }
-
     pub fn read_began(self, address: u8) -> Sensor
         ensures { result ≡ B.read_began self address }
     {
-        let f = self.frame;
-        let tx = f.tx;
-        self.byte_read(tx, address)
+        match self.frame.tx {
+            Some(sent) if self.counts_as_read(address) => self.acceleration_read(address, sent),
+            _ => self,
+        }
     }
 }

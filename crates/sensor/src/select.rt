@@ -9,21 +9,19 @@ impl Sensor {
     fn reselected(self, selected: bool) -> Sensor
         ensures { result ≡ Sel.reselected self selected }
     {
-        let mut s = self;
-        s.frame = Frame::fresh(selected);
-        let i = s.i2c;
-        s.i2c = i.abort();
-        let r = s.reads;
-        s.reads = r.drop();
-        s
+        Sensor {
+            frame: Frame::fresh(selected),
+            i2c: self.i2c.abort(),
+            reads: self.reads.drop(),
+            ..self
+        }
     }
 
     #[tactic(auto, unfolding(crate::specs::Select::selected_to))]
     fn selected_to(self, selected: bool) -> Sensor
         ensures { result ≡ Sel.selected_to self selected }
     {
-        let f = self.frame;
-        if f.changes(selected) {
+        if self.frame.changes(selected) {
             return self.reselected(selected);
         }
         self
@@ -33,10 +31,7 @@ impl Sensor {
     fn may_select(self, selected: bool) -> bool
         ensures { result ≡ Sel.may_select self selected }
     {
-        if selected {
-            return !self.is_off();
-        }
-        false
+        selected && !self.is_off()
     }
 
     pub fn set_selected(self, selected: bool) -> Sensor

@@ -1,23 +1,12 @@
 // The sensor record. Names are the Rust's (devices/bma150.rs).
-use deadlines::{Deadline, Deadlines};
+use deadlines::Deadlines;
 use i2c::types::{Levels, State};
 use interrupts::Interrupts;
 use nv::WriteCycle;
 use reads::Reads;
 use sampling::types::{Input, Sampling};
-use spi::types::{Frame, Option<u8>};
-
-// A stored write that runs: when it began, the address and the wanted byte.
-#[derive(Clone, Copy)]
-pub enum Operation {
-    Idle,
-    Running(WriteCycle, u8, u8),
-}
-
-#[derive(Clone, Copy)]
-pub struct Writing {
-    pub operation: Option<(WriteCycle, u8, u8)>,
-}
+use spi::types::Frame;
+use time::Time;
 
 // Since when the supply is below 2400 mV, and whether it met 0 mV.
 #[derive(Clone, Copy)]
@@ -34,6 +23,7 @@ pub struct Kept {
     pub lines: Levels,
 }
 
+// `writing` is the stored write that runs: when it began, the address and the wanted byte (the Rust's `nv_operation`).
 #[derive(Clone, Copy)]
 pub struct Sensor {
     pub registers: [u8; 62],
@@ -44,31 +34,23 @@ pub struct Sensor {
     pub kept: Kept,
     pub sampling: Sampling,
     pub deadlines: Deadlines,
-    pub writing: Writing,
+    pub writing: Option<(WriteCycle, u8, u8)>,
     pub interrupts: Interrupts,
     pub supply: Supply,
 }
 
-// The byte that a register shows, or its absence.
-#[derive(Clone, Copy)]
-pub enum View {
-    Byte(u8),
-    Withheld,
-}
-
-// Whether the value of an acceleration is the mean of a full window or a single code, where a view shows one.
-#[derive(Clone, Copy)]
+// Whether the value of an acceleration is the mean of a full window or a single code.
+#[derive(Clone, Copy, PartialEq, Eq)]
 pub enum Mark {
     Mean,
     Single,
-    Nothing,
 }
 
-// What a view answers.
-#[derive(Clone, Copy)]
+// What a view answers: the byte that the register shows, where none is withheld, and the mark of an acceleration that is shown.
+#[derive(Clone, Copy, PartialEq, Eq)]
 pub struct Viewed {
     pub view: Option<u8>,
-    pub mark: Mark,
+    pub mark: Option<Mark>,
 }
 
 // A byte fetched to be sent.

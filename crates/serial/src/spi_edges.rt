@@ -4,7 +4,7 @@ ghost use Rattle.serial.specs.SpiEdges as Z;
 
 use samples::sync_local_until;
 use sensor::types::{Fetched, Sensor};
-use spi::types::{Clocked, Option<u8>, Shift, Taken, Write};
+use spi::types::{Clocked, Shift, Taken, Write};
 use time::Time;
 use writes::write::write_register;
 

@@ -35,7 +35,7 @@ abbrev pub completed : Sensor → (address : Address) (value : Byte) → Served
 completed s address value =
     record {
       sensor = copy_image (write_over s address value);
-      report = Report.Completed address value;
+      report = Some (Report.Completed address value);
     }
 
 unfoldable pub write_ended : Operation → Sensor → (now : Time) → Served

@@ -22,7 +22,7 @@ use Rattle.sensor.specs.Select.{set_selected}
 
 -- no report
 abbrev pub without_report : Sensor → Served
-without_report s = record { sensor = s; report = Report.Nothing }
+without_report s = record { sensor = s; report = None }
 
 -- ---- loss of supply
 
@@ -37,7 +37,7 @@ torn w s address value now = byte_at w (cell_byte s.nonvolatile address) value (
 unfoldable pub cut : Operation → Sensor → (now : Time) → Served
 cut None s now = without_report s
 cut (Some (w, address, value)) s now =
-    record { sensor = write_over s address (torn w s address value now); report = Report.Cut address (torn w s address value now) }
+    record { sensor = write_over s address (torn w s address value now); report = Some (Report.Cut address (torn w s address value now)) }
 
 -- deselected, the engine aborted, off since now
 abbrev pub off : Sensor → (now : Time) (cold : Bool) → Sensor

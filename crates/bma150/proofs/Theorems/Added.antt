@@ -1,5 +1,5 @@
 -- What a reply adds, read off its values, is what the call adds.
-use Rattle.std.specs.Prelude.{ℕ, ◌≡◌, Bool, List, eqb}
+use Rattle.std.specs.Prelude.{ℕ, ◌≡◌, Bool, List, eqb, Option, None}
 use Rattle.std.proofs.Math.Path.{refl, ap}
 use Rattle.std.proofs.Common.{◌∙◌}
 use Rattle.std.proofs.Math.Bool.{true, false, cond}
@@ -16,7 +16,7 @@ use Rattle.bma150.specs.Values.{report_values}
 use Rattle.bma150.specs.Called.{Added, reported, of_view, put_in, timed_adds, served, leaves, adds, number, called}
 
 -- a timed call's report fixes what it adds
-report_is : (t : Timed) (r q : Report) → report_values r ≡ reported (timed_adds t q) → timed_adds t r ≡ timed_adds t q
+report_is : (t : Timed) (r q : Option Report) → report_values r ≡ reported (timed_adds t q) → timed_adds t r ≡ timed_adds t q
 unfolding timed_adds reported
 report_is (Timed.Accelerations x y z) r q e = refl
 report_is (Timed.Supply rail) r q e = ap Added.report e
@@ -36,7 +36,7 @@ if_accepted n m z x y e f = ap (λ (k : ℕ). cond (eqb k 0) x z) e ∙ go (eqb 
 
 module _ (s : Bma150) (now : Time) where
   -- with a report
-  pub reported_is : (t : Timed) (n : ℕ) (r : Report) → n ≡ number s (Call.At now t) → report_values r ≡ reported (called s (Call.At now t)).adds
+  pub reported_is : (t : Timed) (n : ℕ) (r : Option Report) → n ≡ number s (Call.At now t) → report_values r ≡ reported (called s (Call.At now t)).adds
       → unless_refused n Added.nothing (timed_adds t r) ≡ (called s (Call.At now t)).adds
   unfolding adds
   reported_is t n r p e =
@@ -44,10 +44,10 @@ module _ (s : Bma150) (now : Time) where
       (λ q. report_is t r (served s now t).report (e ∙ ap reported (accepted_is (number s (Call.At now t)) Added.nothing (adds s (Call.At now t)) q)))
 
   -- without one
-  pub silent_is : (t : Timed) (n : ℕ) → n ≡ number s (Call.At now t) → timed_adds t Report.Nothing ≡ timed_adds t (served s now t).report
-      → unless_refused n Added.nothing (timed_adds t Report.Nothing) ≡ (called s (Call.At now t)).adds
+  pub silent_is : (t : Timed) (n : ℕ) → n ≡ number s (Call.At now t) → timed_adds t None ≡ timed_adds t (served s now t).report
+      → unless_refused n Added.nothing (timed_adds t None) ≡ (called s (Call.At now t)).adds
   unfolding adds
-  silent_is t n p e = if_accepted n (number s (Call.At now t)) Added.nothing (timed_adds t Report.Nothing) (adds s (Call.At now t)) p (λ q. e)
+  silent_is t n p e = if_accepted n (number s (Call.At now t)) Added.nothing (timed_adds t None) (adds s (Call.At now t)) p (λ q. e)
 
   -- the buffer of a stored-image call
   pub buffer_is : (k n : ℕ) (lent left : List ℕ) → n ≡ number s (Call.StoredImage now k) → left ≡ put_in (called s (Call.StoredImage now k)).adds lent

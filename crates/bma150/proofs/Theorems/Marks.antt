@@ -63,7 +63,7 @@ letter_of : (s : Sensor) (address : ℕ) → is_acceleration address ≡ true �
 unfolding mark mark_letter
 letter_of s address e = rw e (go (get_or s.sampling.means (axis_of address) false))
   where
-    go : (b : Bool) → mark_letter (cond b Mark.Mean Mark.Single) ≡ Some (cond b 0x6d 0x73)
+    go : (b : Bool) → mark_letter (cond b (Some Mark.Mean) (Some Mark.Single)) ≡ Some (cond b 0x6d 0x73)
     go true = refl
     go false = refl
 

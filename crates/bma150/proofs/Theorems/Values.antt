@@ -17,17 +17,17 @@ drive_letter_injective Drive.High Drive.Floating p = absurd (omega arith)
 drive_letter_injective Drive.High Drive.Low p = absurd (omega arith)
 drive_letter_injective Drive.High Drive.High p = refl
 
-pub report_values_injective : (a b : Report) → report_values a ≡ report_values b → a ≡ b
+pub report_values_injective : (a b : Option Report) → report_values a ≡ report_values b → a ≡ b
 unfolding report_values
-report_values_injective Report.Nothing Report.Nothing p = refl
-report_values_injective Report.Nothing (Report.Completed d w) p = cc
-report_values_injective Report.Nothing (Report.Cut d w) p = cc
-report_values_injective (Report.Completed c v) Report.Nothing p = cc
-report_values_injective (Report.Completed c v) (Report.Completed d w) p = cc
-report_values_injective (Report.Completed c v) (Report.Cut d w) p = let z : ◌≡◌ {A = ℕ} 0x43 0x58 = ap (λ (l : List ℕ). get_or l 0 0) p in absurd (omega arith)
-report_values_injective (Report.Cut c v) Report.Nothing p = cc
-report_values_injective (Report.Cut c v) (Report.Completed d w) p = let z : ◌≡◌ {A = ℕ} 0x58 0x43 = ap (λ (l : List ℕ). get_or l 0 0) p in absurd (omega arith)
-report_values_injective (Report.Cut c v) (Report.Cut d w) p = cc
+report_values_injective None None p = refl
+report_values_injective None (Some (Report.Completed d w)) p = cc
+report_values_injective None (Some (Report.Cut d w)) p = cc
+report_values_injective (Some (Report.Completed c v)) None p = cc
+report_values_injective (Some (Report.Completed c v)) (Some (Report.Completed d w)) p = cc
+report_values_injective (Some (Report.Completed c v)) (Some (Report.Cut d w)) p = let z : ◌≡◌ {A = ℕ} 0x43 0x58 = ap (λ (l : List ℕ). get_or l 0 0) p in absurd (omega arith)
+report_values_injective (Some (Report.Cut c v)) None p = cc
+report_values_injective (Some (Report.Cut c v)) (Some (Report.Completed d w)) p = let z : ◌≡◌ {A = ℕ} 0x58 0x43 = ap (λ (l : List ℕ). get_or l 0 0) p in absurd (omega arith)
+report_values_injective (Some (Report.Cut c v)) (Some (Report.Cut d w)) p = cc
 
 pub view_value_injective : (a b : Option ℕ) → view_value a ≡ view_value b → a ≡ b
 unfolding view_value

@@ -21,4 +21,4 @@ off test c d input phase rules t e = rw t e
 pub returns-then-left-eq0 : goal.returns-then-left-eq0
 unfolding axis_phase
 returns-then-left-eq0 c =
-    rw (c.in-Phases.is, eq-eqb _ _ c.if-left-eq0.true, eq-eqb _ _ c.if-phase-eq3.true) (c.test_ended.ensures _)
+    rw (c.in-Some.is, eq-eqb _ _ c.if-left-eq0.true, eq-eqb _ _ c.if-phase-eq3-2.true) (c.test_ended.ensures _)

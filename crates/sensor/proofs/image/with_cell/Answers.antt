@@ -3,14 +3,14 @@ use native.Mathlib.Omega.{arith}
 use mathlib.Core.Path.{sym, ◌∙◌}
 use Rattle.sensor.proofs.image.with_cell.Goals as goal
 
-pub overflow_sub-i : goal.overflow_sub-i
-overflow_sub-i c =
+pub overflow_sub-changed : goal.overflow_sub-changed
+overflow_sub-changed c =
     let a = c.args.address in
     let h = sym c.stored.ensures ∙ c.if-stored.true in
     omega (arith, stored_from a h, stored_to a h)
 
-pub bounds-i-address : goal.bounds-i-address
-bounds-i-address c =
+pub bounds-changed-address : goal.bounds-changed-address
+bounds-changed-address c =
     let a = c.args.address in
     let h = sym c.stored.ensures ∙ c.if-stored.true in
     omega (arith, stored_from a h, stored_to a h)
