@@ -5,45 +5,30 @@ ghost use Rattle.std.specs.Prelude.{◌≡◌};
 ghost use Rattle.samples.specs.Samples as S;
 
 use control::lengths::needs;
-use deadlines::Deadline;
+use nv::WriteCycle;
 use sampling::types::Acquisition;
-use sensor::types::{Operation, Sensor};
+use sensor::types::Sensor;
 use time::Time;
 
 #[tactic(auto, unfolding(crate::specs::Samples::write_end))]
 fn write_end(operation: Option<(WriteCycle, u8, u8)>) -> Option<Time>
     ensures { result ≡ S.write_end operation }
 {
-    match operation {
-        None => None,
-        Some((w, _, _)) => Some(w.deadline()),
-    }
+    operation.map(|(w, _, _)| w.deadline())
 }
 
 #[tactic(auto, unfolding(crate::specs::Samples::limit))]
 fn limit(end: Time, inclusive: bool) -> Time
     ensures { result ≡ S.limit end inclusive }
 {
-    if inclusive {
-        return end.next_unit();
-    }
-    end
+    if inclusive { end.next_unit() } else { end }
 }
 
-#[tactic(auto, unfolding(crate::specs::Samples::samples_run))]
+#[tactic(auto, unfolding(crate::specs::Samples::samples_run, deadlines::specs::Deadlines::is_set))]
 pub fn samples_run(sensor: Sensor) -> bool
     ensures { result ≡ S.samples_run sensor }
 {
-    if sensor.is_off() {
-        return false;
-    }
-    let g = sensor.sampling;
-    if g.asleep {
-        return false;
-    }
-    let d = sensor.deadlines;
-    let wake = d.wake;
-    !wake.is_set()
+    !sensor.is_off() && !sensor.sampling.asleep && sensor.deadlines.wake.is_none()
 }
 
 #[tactic(auto, unfolding(crate::specs::Samples::next_sample))]
@@ -51,9 +36,7 @@ pub fn next_sample(sensor: Sensor) -> Option<Time>
     ensures { result ≡ S.next_sample sensor }
 {
     if samples_run(sensor) {
-        let g = sensor.sampling;
-        let c = g.clock;
-        return Some(c.next());
+        return Some(sensor.sampling.clock.next());
     }
     None
 }
@@ -62,10 +45,7 @@ pub fn next_sample(sensor: Sensor) -> Option<Time>
 fn sample_due(sensor: Sensor, samples: bool) -> Option<Time>
     ensures { result ≡ S.sample_due sensor samples }
 {
-    if samples {
-        return next_sample(sensor);
-    }
-    None
+    if samples { next_sample(sensor) } else { None }
 }
 
 #[tactic(auto, unfolding(crate::specs::Samples::next_deadline))]
@@ -75,10 +55,8 @@ fn next_deadline(sensor: Sensor, samples: bool) -> Option<Time>
     if sensor.is_off() {
         return None;
     }
-    let d = sensor.deadlines;
-    let w = sensor.writing;
-    let operation = w.operation;
-    d.earliest(sample_due(sensor, samples), write_end(operation))
+    let sample = sample_due(sensor, samples);
+    sensor.deadlines.earliest(sample, write_end(sensor.writing))
 }
 
 // Next due.
@@ -92,33 +70,34 @@ pub fn interaction_deadline(sensor: Sensor) -> Option<Time>
 pub fn after_edges(sensor: Sensor, n: u64) -> Sensor
     ensures { result ≡ S.after_edges sensor n }
 {
-    let registers = sensor.registers;
-    let sampling = sensor.sampling;
-    let interrupts = sensor.interrupts;
-    let k = sensor.kept;
-    let input = k.input;
-    let c = Acquisition {
-        registers: registers,
-        sampling: sampling,
-        interrupts: interrupts,
+    let Sensor {
+        registers,
+        sampling,
+        interrupts,
+        ..
+    } = sensor;
+    let before = Acquisition {
+        registers,
+        sampling,
+        interrupts,
     };
-    let t = c.samples(n, input, needs());
-    let mut s = sensor;
-    let r = t.registers;
-    s.registers = r;
-    let g = t.sampling;
-    s.sampling = g;
-    let i = t.interrupts;
-    s.interrupts = i;
-    s
+    let Acquisition {
+        registers,
+        sampling,
+        interrupts,
+    } = before.samples(n, sensor.kept.input, needs());
+    Sensor {
+        registers,
+        sampling,
+        interrupts,
+        ..sensor
+    }
 }
 
 fn edges_until(sensor: Sensor, end: Time, inclusive: bool) -> u64
     ensures { result ≡ S.edges_until sensor end inclusive }
 {
-    let g = sensor.sampling;
-    let c = g.clock;
-    c.edges_before(limit(end, inclusive))
+    sensor.sampling.clock.edges_before(limit(end, inclusive))
 }
 
 #[tactic(auto, unfolding(crate::specs::Samples::caught_up))]
@@ -128,18 +107,14 @@ fn caught_up(sensor: Sensor, end: Time, n: u64) -> Sensor
     if n == 0 {
         return sensor;
     }
-    let s = after_edges(sensor, n);
-    s.automatic_control(end, false, false)
+    after_edges(sensor, n).automatic_control(end, false, false)
 }
 
 #[tactic(auto, unfolding(crate::specs::Samples::samples_on_demand))]
 fn samples_on_demand(sensor: Sensor) -> bool
     ensures { result ≡ S.samples_on_demand sensor }
 {
-    if sensor.automatic() {
-        return false;
-    }
-    samples_run(sensor)
+    !sensor.automatic() && samples_run(sensor)
 }
 
 #[tactic(auto, unfolding(crate::specs::Samples::sync_local_until))]
@@ -147,8 +122,7 @@ pub fn sync_local_until(sensor: Sensor, end: Time, inclusive: bool) -> Sensor
     ensures { result ≡ S.sync_local_until sensor end inclusive }
 {
     if samples_on_demand(sensor) {
-        let n = edges_until(sensor, end, inclusive);
-        return caught_up(sensor, end, n);
+        return caught_up(sensor, end, edges_until(sensor, end, inclusive));
     }
     sensor
 }

@@ -9,18 +9,10 @@ use spi::types::Drive;
 pub fn spi_drives(sensor: Sensor) -> bool
     ensures { result ≡ Out.spi_drives sensor }
 {
-    if sensor.serial_not_ready() {
-        return false;
-    }
-    let f = sensor.frame;
-    if f.selected {
-        let g = sensor.sampling;
-        if g.asleep {
-            return false;
-        }
-        return !sensor.is_quiet();
-    }
-    false
+    !sensor.serial_not_ready()
+        && sensor.frame.selected
+        && !sensor.sampling.asleep
+        && !sensor.is_quiet()
 }
 
 // The four-wire output.
@@ -28,12 +20,8 @@ pub fn spi_drives(sensor: Sensor) -> bool
 pub fn output(sensor: Sensor) -> Drive
     ensures { result ≡ Out.output sensor }
 {
-    let f = sensor.frame;
-    let driven = f.driven;
-    if sensor.four_wire() {
-        if spi_drives(sensor) {
-            return driven;
-        }
+    if sensor.four_wire() && spi_drives(sensor) {
+        return sensor.frame.driven;
     }
     Drive::Floating
 }
@@ -42,18 +30,7 @@ pub fn output(sensor: Sensor) -> Drive
 pub fn i2c_holds(sensor: Sensor) -> bool
     ensures { result ≡ Out.i2c_holds sensor }
 {
-    let f = sensor.frame;
-    if f.selected {
-        return false;
-    }
-    if sensor.is_off() {
-        return false;
-    }
-    if sensor.serial_not_ready() {
-        return false;
-    }
-    let i = sensor.i2c;
-    i.low
+    !sensor.frame.selected && !sensor.is_off() && !sensor.serial_not_ready() && sensor.i2c.low
 }
 
 // The data pin.
@@ -61,16 +38,11 @@ pub fn i2c_holds(sensor: Sensor) -> bool
 pub fn data_output(sensor: Sensor) -> Drive
     ensures { result ≡ Out.data_output sensor }
 {
-    let f = sensor.frame;
-    let driven = f.driven;
     if i2c_holds(sensor) {
         return Drive::Low;
     }
-    if sensor.four_wire() {
-        return Drive::Floating;
-    }
-    if spi_drives(sensor) {
-        return driven;
+    if !sensor.four_wire() && spi_drives(sensor) {
+        return sensor.frame.driven;
     }
     Drive::Floating
 }

@@ -4,7 +4,7 @@ ghost use Rattle.serial.specs.SpiEdges as Z;
 
 use samples::sync_local_until;
 use sensor::types::{Fetched, Sensor};
-use spi::types::{Clocked, Shift, Taken, Write};
+use spi::types::{Clocked, Shift, Taken};
 use time::Time;
 use writes::write::write_register;
 
@@ -12,25 +12,20 @@ fn showing(f: Fetched) -> Sensor
     ensures { result ≡ Z.showing f }
 {
     let mut s = f.sensor;
-    let sent = f.sent;
-    let g = s.frame;
-    s.frame = g.shifted(sent);
+    s.frame = s.frame.shifted(f.sent);
     s
 }
 
 #[tactic(auto, unfolding(crate::specs::SpiEdges::moved))]
-fn moved(sensor: Sensor, shift: Shift) -> Sensor
+fn moved(mut sensor: Sensor, shift: Shift) -> Sensor
     ensures { result ≡ Z.moved shift sensor }
 {
-    let f = sensor.frame;
     match shift {
         Shift::Stay => sensor,
         Shift::Fetch(a) => showing(sensor.prepare_read(a)),
         Shift::Next => {
-            let tx = f.tx;
-            let mut s = sensor;
-            s.frame = f.shifted(tx);
-            s
+            sensor.frame = sensor.frame.shifted(sensor.frame.tx);
+            sensor
         }
     }
 }
@@ -38,8 +33,7 @@ fn moved(sensor: Sensor, shift: Shift) -> Sensor
 fn shift_output(sensor: Sensor, at: Clocked) -> Sensor
     ensures { result ≡ Z.shift_output sensor at }
 {
-    let f = sensor.frame;
-    moved(sensor, f.shifts(at, sensor.four_wire()))
+    moved(sensor, sensor.frame.shifts(at, sensor.four_wire()))
 }
 
 #[tactic(auto, unfolding(crate::specs::SpiEdges::first_bit_taken))]
@@ -47,88 +41,69 @@ fn first_bit_taken(sensor: Sensor, a: Option<u8>) -> Sensor
     ensures { result ≡ Z.first_bit_taken a sensor }
 {
     match a {
-        None => sensor,
         Some(r) => sensor.read_began(r),
+        None => sensor,
     }
 }
 
 #[tactic(auto, unfolding(crate::specs::SpiEdges::write_done))]
-fn write_done(sensor: Sensor, w: Option<(u8, u8)>, now: Time) -> Sensor
-    ensures { result ≡ Z.write_done w sensor now }
+fn write_done(sensor: Sensor, write: Option<(u8, u8)>, now: Time) -> Sensor
+    ensures { result ≡ Z.write_done write sensor now }
 {
-    match w {
-        None => sensor,
+    match write {
         Some((a, v)) => write_register(sensor, a, v, now),
+        None => sensor,
     }
 }
 
-fn bit_done(sensor: Sensor, t: Taken, now: Time) -> Sensor
+fn bit_done(mut sensor: Sensor, t: Taken, now: Time) -> Sensor
     ensures { result ≡ Z.bit_done t sensor now }
 {
-    let f = t.frame;
-    let w = t.write;
-    let mut s = sensor;
-    s.frame = f;
-    write_done(s, w, now)
+    sensor.frame = t.frame;
+    write_done(sensor, t.write, now)
 }
 
 fn bit_taken(sensor: Sensor, mosi: bool, now: Time) -> Sensor
     ensures { result ≡ Z.bit_taken sensor mosi now }
 {
-    let f = sensor.frame;
-    let t = first_bit_taken(sensor, f.first_bit());
-    let g = t.frame;
-    let taken = g.take_bit(mosi, t.four_wire());
-    let u = bit_done(t, taken, now);
-    shift_output(u, Clocked::Rise)
+    let s = first_bit_taken(sensor, sensor.frame.first_bit());
+    let taken = s.frame.take_bit(mosi, s.four_wire());
+    shift_output(bit_done(s, taken, now), Clocked::Rise)
 }
 
-fn turned(sensor: Sensor) -> Sensor
+fn turned(mut sensor: Sensor) -> Sensor
     ensures { result ≡ Z.turned sensor }
 {
-    let mut s = sensor;
-    let f = s.frame;
-    s.frame = f.turned();
-    shift_output(s, Clocked::Turnaround)
+    sensor.frame = sensor.frame.turned();
+    shift_output(sensor, Clocked::Turnaround)
 }
 
 #[tactic(auto, unfolding(crate::specs::SpiEdges::spi_listens))]
 pub fn spi_listens(sensor: Sensor) -> bool
     ensures { result ≡ Z.spi_listens sensor }
 {
-    let f = sensor.frame;
-    if f.selected {
-        if sensor.serial_not_ready() {
-            return false;
-        }
-        return !sensor.is_quiet();
-    }
-    false
+    sensor.frame.selected && !sensor.serial_not_ready() && !sensor.is_quiet()
 }
 
 #[tactic(auto, unfolding(crate::specs::SpiEdges::rising_effect))]
 fn rising_effect(sensor: Sensor, mosi: bool, now: Time) -> Sensor
     ensures { result ≡ Z.rising_effect sensor mosi now }
 {
-    let f = sensor.frame;
-    if spi_listens(sensor) {
-        if f.turnaround {
-            return turned(sensor);
-        }
-        return bit_taken(sensor, mosi, now);
+    if !spi_listens(sensor) {
+        return sensor;
     }
-    sensor
+    if sensor.frame.turnaround {
+        return turned(sensor);
+    }
+    bit_taken(sensor, mosi, now)
 }
 
 #[tactic(auto, unfolding(crate::specs::SpiEdges::rise_synced))]
 pub fn rise_synced(sensor: Sensor, now: Time) -> Sensor
     ensures { result ≡ Z.rise_synced sensor now }
 {
-    let f = sensor.frame;
-    if spi_listens(sensor) {
-        if f.consumes_at_rise() {
-            return sync_local_until(sensor, now, true);
-        }
+    if spi_listens(sensor) && sensor.frame.consumes_at_rise() {
+        return sync_local_until(sensor, now, true);
     }
     sensor
 }
@@ -136,19 +111,15 @@ pub fn rise_synced(sensor: Sensor, now: Time) -> Sensor
 pub fn rising_at(sensor: Sensor, mosi: bool, now: Time) -> Sensor
     ensures { result ≡ Z.rising_at sensor mosi now }
 {
-    let s = rise_synced(sensor, now);
-    rising_effect(s, mosi, now)
+    rising_effect(rise_synced(sensor, now), mosi, now)
 }
 
 #[tactic(auto, unfolding(crate::specs::SpiEdges::fall_synced))]
 fn fall_synced(sensor: Sensor, now: Time) -> Sensor
     ensures { result ≡ Z.fall_synced sensor now }
 {
-    let f = sensor.frame;
-    if spi_listens(sensor) {
-        if f.consumes_at_fall(sensor.four_wire()) {
-            return sync_local_until(sensor, now, true);
-        }
+    if spi_listens(sensor) && sensor.frame.consumes_at_fall(sensor.four_wire()) {
+        return sync_local_until(sensor, now, true);
     }
     sensor
 }
@@ -157,10 +128,7 @@ fn fall_synced(sensor: Sensor, now: Time) -> Sensor
 fn falling_effect(sensor: Sensor) -> Sensor
     ensures { result ≡ Z.falling_effect sensor }
 {
-    if sensor.serial_not_ready() {
-        return sensor;
-    }
-    if sensor.is_off() {
+    if sensor.serial_not_ready() || sensor.is_off() {
         return sensor;
     }
     shift_output(sensor, Clocked::Fall)
@@ -169,6 +137,5 @@ fn falling_effect(sensor: Sensor) -> Sensor
 pub fn falling_at(sensor: Sensor, now: Time) -> Sensor
     ensures { result ≡ Z.falling_at sensor now }
 {
-    let s = fall_synced(sensor, now);
-    falling_effect(s)
+    falling_effect(fall_synced(sensor, now))
 }

@@ -4,10 +4,11 @@ ghost use Rattle.waits.specs.Due as D;
 
 use crate::supply::{without_report, write_over};
 use crate::types::{Report, Served};
-use deadlines::Deadline;
+use deadlines::{is_at, unless_at};
+use nv::WriteCycle;
 use registers::fields::CONTROL;
 use samples::{after_edges, next_sample};
-use sensor::types::{Operation, Sensor};
+use sensor::types::Sensor;
 use time::{Clock, Duration, Time};
 
 // Automatic mode verifies at the end of a scan or of a hold.
@@ -15,36 +16,23 @@ use time::{Clock, Duration, Time};
 fn verifies(sample: bool, scan: bool, hold_ended: bool) -> bool
     ensures { result ≡ D.verifies sample scan hold_ended }
 {
-    if sample {
-        if scan {
-            return true;
-        }
-        return hold_ended;
-    }
-    hold_ended
+    sample && scan || hold_ended
 }
 
-fn waits_ended(sensor: Sensor, now: Time) -> Sensor
+fn waits_ended(mut sensor: Sensor, now: Time) -> Sensor
     ensures { result ≡ D.waits_ended sensor now }
 {
-    let d = sensor.deadlines;
-    let ready = d.serial_ready;
-    let hold = d.irq_hold;
-    let quiet = d.quiet;
-    let e = d.with_serial_ready(ready.unless_at(now));
-    let f = e.with_irq_hold(hold.unless_at(now));
-    let mut s = sensor;
-    s.deadlines = f.with_quiet(quiet.unless_at(now));
-    s
+    sensor.deadlines.serial_ready = unless_at(sensor.deadlines.serial_ready, now);
+    sensor.deadlines.irq_hold = unless_at(sensor.deadlines.irq_hold, now);
+    sensor.deadlines.quiet = unless_at(sensor.deadlines.quiet, now);
+    sensor
 }
 
 #[tactic(auto, unfolding(crate::specs::Due::pause_ended))]
 fn pause_ended(sensor: Sensor, now: Time) -> Sensor
     ensures { result ≡ D.pause_ended sensor now }
 {
-    let d = sensor.deadlines;
-    let pause = d.pause;
-    if pause.is_at(now) {
+    if is_at(sensor.deadlines.pause, now) {
         return sensor.start_acquisition(now, Duration::from_millis(1));
     }
     sensor
@@ -53,11 +41,9 @@ fn pause_ended(sensor: Sensor, now: Time) -> Sensor
 fn completed(sensor: Sensor, address: u8, value: u8) -> Served
     ensures { result ≡ D.completed sensor address value }
 {
-    let s = write_over(sensor, address, value);
-    let t = s.copy_image();
     Served {
-        sensor: t,
-        report: Report::Completed(address, value),
+        sensor: write_over(sensor, address, value).copy_image(),
+        report: Some(Report::Completed(address, value)),
     }
 }
 
@@ -65,25 +51,21 @@ fn completed(sensor: Sensor, address: u8, value: u8) -> Served
 fn write_ended(sensor: Sensor, operation: Option<(WriteCycle, u8, u8)>, now: Time) -> Served
     ensures { result ≡ D.write_ended operation sensor now }
 {
-    match operation {
-        None => without_report(sensor),
-        Some((w, address, value)) => {
-            let end = w.deadline();
-            if end.same(now) {
-                return completed(sensor, address, value);
-            }
-            without_report(sensor)
-        }
+    let Some((w, address, value)) = operation else {
+        return without_report(sensor);
+    };
+    if w.deadline() == now {
+        return completed(sensor, address, value);
     }
+    without_report(sensor)
 }
 
 fn image_loaded(sensor: Sensor) -> Sensor
     ensures { result ≡ D.image_loaded sensor }
 {
     let mut s = sensor.copy_image();
-    let d = s.deadlines;
-    s.deadlines = d.with_image(None);
-    s.registers[CONTROL] = s.registers[CONTROL] & 0xdf;
+    s.deadlines.image = None;
+    s.registers[CONTROL] &= 0xdf;
     s
 }
 
@@ -91,27 +73,19 @@ fn image_loaded(sensor: Sensor) -> Sensor
 fn image_ended(sensor: Sensor, now: Time) -> Sensor
     ensures { result ≡ D.image_ended sensor now }
 {
-    let d = sensor.deadlines;
-    let image = d.image;
-    if image.is_at(now) {
+    if is_at(sensor.deadlines.image, now) {
         return image_loaded(sensor);
     }
     sensor
 }
 
 #[tactic(auto, unfolding(crate::specs::Due::wake_ended))]
-fn wake_ended(sensor: Sensor, now: Time) -> Sensor
+fn wake_ended(mut sensor: Sensor, now: Time) -> Sensor
     ensures { result ≡ D.wake_ended sensor now }
 {
-    let d = sensor.deadlines;
-    let wake = d.wake;
-    if wake.is_at(now) {
-        let mut s = sensor;
-        s.deadlines = d.with_wake(None);
-        let mut g = s.sampling;
-        g.clock = Clock::new(now);
-        s.sampling = g;
-        return s;
+    if is_at(sensor.deadlines.wake, now) {
+        sensor.deadlines.wake = None;
+        sensor.sampling.clock = Clock::new(now);
     }
     sensor
 }
@@ -120,8 +94,7 @@ fn wake_ended(sensor: Sensor, now: Time) -> Sensor
 fn sample_due_now(sensor: Sensor, now: Time) -> bool
     ensures { result ≡ D.sample_due_now sensor now }
 {
-    let d = next_sample(sensor);
-    d.is_at(now)
+    is_at(next_sample(sensor), now)
 }
 
 #[tactic(auto, unfolding(crate::specs::Due::sample_ended))]
@@ -138,35 +111,24 @@ fn sample_ended(sensor: Sensor, now: Time) -> Sensor
 fn scan_complete(sensor: Sensor) -> bool
     ensures { result ≡ D.scan_complete sensor }
 {
-    let g = sensor.sampling;
-    let c = g.clock;
-    c.ordinal % 4 == 0
+    sensor.sampling.clock.ordinal % 4 == 0
 }
 
 fn waits_served(sensor: Sensor, now: Time) -> Served
     ensures { result ≡ D.waits_served sensor now }
 {
-    let a = waits_ended(sensor, now);
-    let p = pause_ended(a, now);
-    let writing = p.writing;
-    let operation = writing.operation;
-    let w = write_ended(p, operation, now);
-    let report = w.report;
-    let t = w.sensor;
-    let u = image_ended(t, now);
-    let v = wake_ended(u, now);
+    let p = pause_ended(waits_ended(sensor, now), now);
+    let w = write_ended(p, p.writing, now);
     Served {
-        sensor: v,
-        report: report,
+        sensor: wake_ended(image_ended(w.sensor, now), now),
+        report: w.report,
     }
 }
 
 fn hold_ends_now(sensor: Sensor, now: Time) -> bool
     ensures { result ≡ D.hold_ends_now sensor now }
 {
-    let d = sensor.deadlines;
-    let hold = d.irq_hold;
-    hold.is_at(now)
+    is_at(sensor.deadlines.irq_hold, now)
 }
 
 // The sample at this moment, and automatic mode after it.
@@ -184,11 +146,8 @@ pub fn at_deadline(sensor: Sensor, now: Time) -> Served
     let was = sensor.criterion();
     let hold = hold_ends_now(sensor, now);
     let w = waits_served(sensor, now);
-    let report = w.report;
-    let t = w.sensor;
-    let s = sample_served(t, now, was, hold);
     Served {
-        sensor: s,
-        report: report,
+        sensor: sample_served(w.sensor, now, was, hold),
+        report: w.report,
     }
 }

@@ -2,9 +2,8 @@
 use sensor::types::Sensor;
 
 // A stored write that ended: completed, or cut, with its address and byte.
-#[derive(Clone, Copy)]
+#[derive(Clone, Copy, PartialEq, Eq)]
 pub enum Report {
-    Nothing,
     Completed(u8, u8),
     Cut(u8, u8),
 }
@@ -12,5 +11,5 @@ pub enum Report {
 #[derive(Clone, Copy)]
 pub struct Served {
     pub sensor: Sensor,
-    pub report: Report,
+    pub report: Option<Report>,
 }

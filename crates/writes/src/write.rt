@@ -6,44 +6,30 @@ use control::kinds::{
     copies_image, kept, kind_of_write, resets_interrupts, self_test, sleep, turns_automatic,
 };
 use control::types::{SelfTest, Sleep, WriteKind};
-use deadlines::Deadline;
 use nv::WriteCycle;
 use registers::fields::{CONTROL, MEASUREMENT, OPERATION, STATUS, bandwidth};
-use sampling::types::Test;
 use sensor::image::shadowing;
-use sensor::types::{Operation, Sensor, Writing};
+use sensor::types::Sensor;
 use time::{Duration, Time};
 
 #[tactic(auto, unfolding(crate::specs::Write::recounted))]
-fn recounted(sensor: Sensor, again: bool) -> Sensor
+fn recounted(mut sensor: Sensor, again: bool) -> Sensor
     ensures { result ≡ W.recounted sensor again }
 {
     if again {
-        let mut s = sensor;
-        let mut g = s.sampling;
-        g.auto_cycles = 0;
-        s.sampling = g;
-        let i = s.interrupts;
-        s.interrupts = i.restart_acquisition();
-        return s;
+        sensor.sampling.auto_cycles = 0;
+        sensor.interrupts = sensor.interrupts.restart_acquisition();
     }
     sensor
 }
 
-fn interrupts_reset(sensor: Sensor) -> Sensor
+fn interrupts_reset(mut sensor: Sensor) -> Sensor
     ensures { result ≡ W.interrupts_reset sensor }
 {
-    let again = sensor.automatic();
-    let mut s = sensor;
-    let mut g = s.sampling;
-    g.data_ready = false;
-    s.sampling = g;
-    let d = s.deadlines;
-    s.deadlines = d.with_irq_hold(None);
-    let i = s.interrupts;
-    let r = s.registers;
-    s.interrupts = i.reset(r);
-    recounted(s, again)
+    sensor.sampling.data_ready = false;
+    sensor.deadlines.irq_hold = None;
+    sensor.interrupts = sensor.interrupts.reset(sensor.registers);
+    recounted(sensor, sensor.automatic())
 }
 
 #[tactic(auto, unfolding(crate::specs::Write::interrupts_written))]
@@ -57,23 +43,18 @@ fn interrupts_written(sensor: Sensor, value: u8) -> Sensor
 }
 
 #[tactic(auto, unfolding(crate::specs::Write::tested))]
-fn tested(sensor: Sensor, t: SelfTest) -> Sensor
+fn tested(mut sensor: Sensor, t: SelfTest) -> Sensor
     ensures { result ≡ W.tested t sensor }
 {
-    let g = sensor.sampling;
-    let mut s = sensor;
     match t {
         SelfTest::Starts => {
-            s.registers[STATUS] = s.registers[STATUS] & 0x7f;
-            s.sampling = g.with_test(Some(4));
-            s
+            sensor.registers[STATUS] &= 0x7f;
+            sensor.sampling.test = Some(4);
         }
-        SelfTest::Stops => {
-            s.sampling = g.with_test(None);
-            s
-        }
-        SelfTest::Stays => s,
+        SelfTest::Stops => sensor.sampling.test = None,
+        SelfTest::Stays => {}
     }
+    sensor
 }
 
 #[tactic(auto, unfolding(crate::specs::Write::slept))]
@@ -88,14 +69,11 @@ fn slept(sensor: Sensor, z: Sleep, now: Time) -> Sensor
 }
 
 #[tactic(auto, unfolding(crate::specs::Write::image_written))]
-fn image_written(sensor: Sensor, value: u8, now: Time) -> Sensor
+fn image_written(mut sensor: Sensor, value: u8, now: Time) -> Sensor
     ensures { result ≡ W.image_written sensor value now }
 {
     if copies_image(value) {
-        let mut s = sensor;
-        let d = s.deadlines;
-        s.deadlines = d.with_image(Some(now.plus(Duration::from_micros(300))));
-        return s;
+        sensor.deadlines.image = Some(now.plus(Duration::from_micros(300)));
     }
     sensor
 }
@@ -103,65 +81,52 @@ fn image_written(sensor: Sensor, value: u8, now: Time) -> Sensor
 fn sleep_written(sensor: Sensor, value: u8, now: Time) -> Sensor
     ensures { result ≡ W.sleep_written sensor value now }
 {
-    let g = sensor.sampling;
-    let s = slept(sensor, sleep(g.asleep, value), now);
+    let s = slept(sensor, sleep(sensor.sampling.asleep, value), now);
     image_written(s, value, now)
 }
 
-fn control_written(sensor: Sensor, value: u8, now: Time) -> Sensor
+fn control_written(mut sensor: Sensor, value: u8, now: Time) -> Sensor
     ensures { result ≡ W.control_written sensor value now }
 {
     let t = self_test(sensor.registers[CONTROL], value);
-    let mut a = sensor;
-    a.registers[CONTROL] = kept(value);
-    let b = interrupts_written(a, value);
-    let c = tested(b, t);
-    sleep_written(c, value, now)
+    sensor.registers[CONTROL] = kept(value);
+    let s = tested(interrupts_written(sensor, value), t);
+    sleep_written(s, value, now)
 }
 
-fn measurement_written(sensor: Sensor, value: u8) -> Sensor
+fn measurement_written(mut sensor: Sensor, value: u8) -> Sensor
     ensures { result ≡ W.measurement_written sensor value }
 {
-    let mut s = sensor;
-    s.registers[MEASUREMENT] = value;
-    let mut g = s.sampling;
-    let f = g.filter;
-    g.filter = f.select(bandwidth(value));
-    s.sampling = g;
-    s
+    sensor.registers[MEASUREMENT] = value;
+    sensor.sampling.filter = sensor.sampling.filter.select(bandwidth(value));
+    sensor
 }
 
-#[tactic(auto, unfolding(crate::specs::Write::mode_written))]
-fn mode_written(sensor: Sensor, turns: bool) -> Sensor
+#[tactic(auto, unfolding(crate::specs::Write::mode_written, crate::specs::Write::recounted))]
+fn mode_written(mut sensor: Sensor, turns: bool) -> Sensor
     ensures { result ≡ W.mode_written sensor turns }
 {
     if turns {
-        let d = sensor.deadlines;
-        let mut s = recounted(sensor, true);
-        s.deadlines = d.with_irq_hold(None);
-        return s;
+        sensor.deadlines.irq_hold = None;
+        return recounted(sensor, true);
     }
     sensor
 }
 
-fn operation_written(sensor: Sensor, value: u8) -> Sensor
+fn operation_written(mut sensor: Sensor, value: u8) -> Sensor
     ensures { result ≡ W.operation_written sensor value }
 {
     let turns = turns_automatic(sensor.registers[OPERATION], value);
-    let mut s = sensor;
-    s.registers[OPERATION] = value;
-    let r = s.reads;
-    s.reads = shadowing(r, value);
-    mode_written(s, turns)
+    sensor.registers[OPERATION] = value;
+    sensor.reads = shadowing(sensor.reads, value);
+    mode_written(sensor, turns)
 }
 
 fn durations_written(sensor: Sensor, address: u8, value: u8) -> Sensor
     ensures { result ≡ W.durations_written sensor address value }
 {
     let mut s = sensor.put(address, value);
-    let i = s.interrupts;
-    let r = s.registers;
-    s.interrupts = i.configure(r);
+    s.interrupts = s.interrupts.configure(s.registers);
     s
 }
 
@@ -170,8 +135,7 @@ fn register_effect(sensor: Sensor, w: WriteKind, address: u8, value: u8, now: Ti
     ensures { result ≡ W.register_effect w sensor address value now }
 {
     match w {
-        WriteKind::Ignored => sensor,
-        WriteKind::Stored => sensor,
+        WriteKind::Ignored | WriteKind::Stored => sensor,
         WriteKind::Reset => sensor.soft_reset(now),
         WriteKind::Control => control_written(sensor, value, now),
         WriteKind::Measurement => measurement_written(sensor, value),
@@ -181,24 +145,21 @@ fn register_effect(sensor: Sensor, w: WriteKind, address: u8, value: u8, now: Ti
     }
 }
 
-fn begun(sensor: Sensor, address: u8, value: u8, now: Time) -> Sensor
+fn begun(mut sensor: Sensor, address: u8, value: u8, now: Time) -> Sensor
     ensures { result ≡ W.begun sensor address value now }
 {
-    let c = WriteCycle::start(now);
-    let w = Writing {
-        operation: Some((c, address, value)),
-    };
-    let mut s = sensor;
-    s.writing = w;
-    s
+    sensor.writing = Some((WriteCycle::start(now), address, value));
+    sensor
 }
 
 fn then_automatic(sensor: Sensor, w: WriteKind, address: u8, value: u8, now: Time) -> Sensor
     ensures { result ≡ W.then_automatic w sensor address value now }
 {
-    let was = sensor.criterion();
-    let s = register_effect(sensor, w, address, value, now);
-    s.automatic_control(now, was, false)
+    register_effect(sensor, w, address, value, now).automatic_control(
+        now,
+        sensor.criterion(),
+        false,
+    )
 }
 
 #[tactic(auto, unfolding(crate::specs::Write::write_effect))]
@@ -208,18 +169,7 @@ fn write_effect(sensor: Sensor, w: WriteKind, address: u8, value: u8, now: Time)
     match w {
         WriteKind::Ignored => sensor,
         WriteKind::Stored => begun(sensor, address, value, now),
-        WriteKind::Reset => then_automatic(sensor, WriteKind::Reset, address, value, now),
-        WriteKind::Control => then_automatic(sensor, WriteKind::Control, address, value, now),
-        WriteKind::Measurement => then_automatic(
-            sensor,
-            WriteKind::Measurement,
-            address,
-            value,
-            now,
-        ),
-        WriteKind::Operation => then_automatic(sensor, WriteKind::Operation, address, value, now),
-        WriteKind::Durations => then_automatic(sensor, WriteKind::Durations, address, value, now),
-        WriteKind::Plain => then_automatic(sensor, WriteKind::Plain, address, value, now),
+        _ => then_automatic(sensor, w, address, value, now),
     }
 }
 
@@ -232,6 +182,11 @@ fn write_kind(sensor: Sensor, address: u8, value: u8) -> WriteKind
 pub fn write_register(sensor: Sensor, address: u8, value: u8, now: Time) -> Sensor
     ensures { result ≡ W.write_register sensor address value now }
 {
-    let w = write_kind(sensor, address, value);
-    write_effect(sensor, w, address, value, now)
+    write_effect(
+        sensor,
+        write_kind(sensor, address, value),
+        address,
+        value,
+        now,
+    )
 }
