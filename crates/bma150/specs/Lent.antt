@@ -2,10 +2,9 @@
 use Rattle.std.specs.Prelude.{◌≡◌}
 use Rattle.time.specs.declared.Time.{Time}
 use Rattle.i2c.specs.declared.types.Levels.{Levels}
-use Rattle.calls.specs.declared.types.Outcome.{Outcome}
 use Rattle.calls.specs.declared.types.Timed.TheVariants as Timed
 use Rattle.calls.specs.declared.types.Call.TheVariants as Call
-use Rattle.calls.specs.Table.{number}
+use Rattle.calls.specs.Table.{Outcome, number}
 use Rattle.bma150.specs.declared.types.Answered.{Answered}
 use Rattle.bma150.specs.declared.host.Bma150.{Bma150}
 use Rattle.bma150.specs.Values.{report_values}

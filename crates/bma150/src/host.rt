@@ -11,8 +11,7 @@ ghost use Rattle.bma150.specs.Called as C;
 
 use crate::types::{Replied, Reported};
 use calls::table::{is_accepted, refusal, start_refusal};
-use calls::types::{Call, Outcome, Starting, Timed};
-use deadlines::Deadline;
+use calls::types::{Call, Refusal, Starting, Timed};
 use i2c::types::Levels;
 use samples::{interaction_deadline, sync_local_until};
 use sensor::image::stock;
@@ -24,7 +23,7 @@ use spi::types::Drive;
 use time::Time;
 use waits::due::at_deadline;
 use waits::supply::{set_input, set_supply, set_temperature, without_report};
-use waits::types::{Report, Served};
+use waits::types::Served;
 
 // The record, and the last accepted time. Only the calls reach them.
 #[derive(Clone, Copy)]
@@ -39,11 +38,7 @@ fn image_of(bytes: &[u8]) -> [u8; 19]
     ensures { result ≡ bytes.now }
 {
     let mut image = [0; 19];
-    let mut i: usize = 0;
-    while i < 19 {
-        image[i] = bytes[i];
-        i += 1;
-    }
+    image.copy_from_slice(bytes);
     image
 }
 
@@ -51,10 +46,7 @@ fn image_of(bytes: &[u8]) -> [u8; 19]
 fn measurement_of(bytes: &[u8]) -> u8
     ensures { result ≡ C.measurement_of bytes.now }
 {
-    if 9 < bytes.len() {
-        return bytes[9];
-    }
-    0
+    bytes.get(9).copied().unwrap_or(0)
 }
 
 // An image in a lent buffer of 19 bytes.
@@ -62,11 +54,7 @@ fn hand_out(buffer: &mut [u8], image: [u8; 19])
     requires { length buffer.old ≡ 19 }
     ensures { buffer.new ≡ image }
 {
-    let mut i: usize = 0;
-    while i < 19 {
-        buffer[i] = image[i];
-        i += 1;
-    }
+    buffer.copy_from_slice(&image);
 }
 
 // What a timed call does to the sensor at its moment.
@@ -90,11 +78,9 @@ fn replied(r: Reported) -> Replied
     ensures sensor_value { result.sensor ≡ r.sensor }
     ensures outcome_value { result.outcome ≡ r.outcome }
 {
-    let sensor = r.sensor;
-    let outcome = r.outcome;
     Replied {
-        sensor: sensor,
-        outcome: outcome,
+        sensor: r.sensor,
+        outcome: r.outcome,
     }
 }
 
@@ -105,23 +91,21 @@ fn started(by: Starting, when: Time, image: &[u8]) -> Replied
 {
     let outcome = start_refusal(by, when, image.len(), measurement_of(image));
     if is_accepted(outcome) {
-        let bytes = image_of(image);
-        let taken = Bma150 {
-            sensor: Sensor::from_nonvolatile(when, bytes),
-            last: when,
-        };
         return Replied {
-            sensor: taken,
-            outcome: outcome,
+            sensor: Bma150 {
+                sensor: Sensor::from_nonvolatile(when, image_of(image)),
+                last: when,
+            },
+            outcome,
         };
     }
-    let first = Bma150 {
-        sensor: Sensor::from_nonvolatile(Time(0, 0), stock()),
-        last: Time(0, 0),
-    };
+    let first = Time(0, 0);
     Replied {
-        sensor: first,
-        outcome: outcome,
+        sensor: Bma150 {
+            sensor: Sensor::from_nonvolatile(first, stock()),
+            last: first,
+        },
+        outcome,
     }
 }
 
@@ -149,27 +133,23 @@ impl Bma150 {
         ensures report_value { Vals.report_values result.report ≡ C.reported (C.called self (Call.At now t)).adds }
     {
         let s = self.sensor;
-        let last = self.last;
-        let outcome = refusal(last, interaction_deadline(s), s.lines(), Call::At(now, t));
-        if is_accepted(outcome) {
-            let a = sync_local_until(s, now, false);
-            let b = effect(a, now, t);
-            let report = b.report;
-            let c = b.sensor;
-            let left = Bma150 {
-                sensor: c,
-                last: now,
-            };
+        let due = interaction_deadline(s);
+        let outcome = refusal(self.last, due, s.lines(), Call::At(now, t));
+        if !is_accepted(outcome) {
             return Reported {
-                sensor: left,
-                outcome: outcome,
-                report: report,
+                sensor: self,
+                outcome,
+                report: None,
             };
         }
+        let after = effect(sync_local_until(s, now, false), now, t);
         Reported {
-            sensor: self,
-            outcome: outcome,
-            report: Report::Nothing,
+            sensor: Bma150 {
+                sensor: after.sensor,
+                last: now,
+            },
+            outcome,
+            report: after.report,
         }
     }
 
@@ -184,11 +164,9 @@ impl Bma150 {
     pub fn temperature(self, millicelsius: i32) -> Bma150
         ensures { result ≡ (C.called self (Call.Temperature millicelsius)).sensor }
     {
-        let s = self.sensor;
-        let last = self.last;
         Bma150 {
-            sensor: set_temperature(s, millicelsius),
-            last: last,
+            sensor: set_temperature(self.sensor, millicelsius),
+            ..self
         }
     }
 
@@ -212,11 +190,9 @@ impl Bma150 {
     pub fn select(self, selected: bool) -> Bma150
         ensures { result ≡ (C.called self (Call.Select selected)).sensor }
     {
-        let s = self.sensor;
-        let last = self.last;
         Bma150 {
-            sensor: s.set_selected(selected),
-            last: last,
+            sensor: self.sensor.set_selected(selected),
+            ..self
         }
     }
 
@@ -246,23 +222,18 @@ impl Bma150 {
     pub fn view(self, address: u8) -> Viewed
         ensures { C.of_view result ≡ (C.called self (Call.View address)).adds }
     {
-        let s = self.sensor;
-        s.viewed(address)
+        self.sensor.viewed(address)
     }
 
     // The stored bytes at a moment, into a lent buffer; the last accepted time stays.
-    pub fn stored_image(self, when: Time, buffer: &mut [u8]) -> Outcome
+    pub fn stored_image(self, when: Time, buffer: &mut [u8]) -> Result<(), Refusal>
         ensures result_value { Table.number result ≡ (C.called self (Call.StoredImage when (length buffer.old))).number }
         ensures buffer_after { buffer.new ≡ C.put_in (C.called self (Call.StoredImage when (length buffer.old))).adds buffer.old }
     {
         let s = self.sensor;
-        let last = self.last;
-        let outcome = refusal(
-            last,
-            interaction_deadline(s),
-            s.lines(),
-            Call::StoredImage(when, buffer.len()),
-        );
+        let due = interaction_deadline(s);
+        let call = Call::StoredImage(when, buffer.len());
+        let outcome = refusal(self.last, due, s.lines(), call);
         if is_accepted(outcome) {
             let image = s.nonvolatile(when);
             hand_out(buffer, image);
@@ -274,31 +245,27 @@ impl Bma150 {
     pub fn interrupt(self) -> bool
         ensures { result ≡ C.interrupt self }
     {
-        let s = self.sensor;
-        s.interrupt()
+        self.sensor.interrupt()
     }
 
     // The four-wire output.
     pub fn output(self) -> Drive
         ensures { Vals.drive_letter result ≡ Vals.drive_letter (C.output self) }
     {
-        let s = self.sensor;
-        output(s)
+        output(self.sensor)
     }
 
     // The data pin.
     pub fn data_output(self) -> Drive
         ensures { Vals.drive_letter result ≡ Vals.drive_letter (C.data_output self) }
     {
-        let s = self.sensor;
-        data_output(s)
+        data_output(self.sensor)
     }
 
     // Next due.
     pub fn next_due(self) -> Option<Time>
         ensures { moment result ≡ C.next_due self }
     {
-        let s = self.sensor;
-        interaction_deadline(s)
+        interaction_deadline(self.sensor)
     }
 }

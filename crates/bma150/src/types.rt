@@ -1,26 +1,26 @@
 // What the calls answer.
 use crate::host::Bma150;
-use calls::types::Outcome;
+use calls::types::Refusal;
 use waits::types::Report;
 
 // The sensor and the answer of a call.
 #[derive(Clone, Copy)]
 pub struct Replied {
     pub sensor: Bma150,
-    pub outcome: Outcome,
+    pub outcome: Result<(), Refusal>,
 }
 
 // Those of a call that may report the end of a stored write.
 #[derive(Clone, Copy)]
 pub struct Reported {
     pub sensor: Bma150,
-    pub outcome: Outcome,
-    pub report: Report,
+    pub outcome: Result<(), Refusal>,
+    pub report: Option<Report>,
 }
 
 // The answer of a lent due call: the sensor stays where the host keeps it.
 #[derive(Clone, Copy)]
 pub struct Answered {
-    pub outcome: Outcome,
-    pub report: Report,
+    pub outcome: Result<(), Refusal>,
+    pub report: Option<Report>,
 }

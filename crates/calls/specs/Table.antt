@@ -61,7 +61,11 @@ refusal_number Refusal.Command = command
 refusal_number Refusal.PinJump = pin_jump
 refusal_number Refusal.ReservedCode = reserved_code
 
-unfoldable pub number : Result (Unit {0}) Refusal → ℕ
+-- what a call answers first: accepted, or refused and why
+abbrev pub Outcome : Type 0
+Outcome = Result (Unit {0}) Refusal
+
+unfoldable pub number : Outcome → ℕ
 number (Ok _) = no_refusal
 number (Err why) = refusal_number why
 

@@ -1,5 +1,5 @@
 // Which refusal a call gets: the first row found, in 01's order.
-ghost use Rattle.std.specs.Prelude.{◌≡◌, if◌then◌else◌};
+ghost use Rattle.std.specs.Prelude.{◌≡◌, eqb, if◌then◌else◌};
 ghost use Rattle.calls.specs.Facts as F;
 ghost use Rattle.calls.specs.Table as Table;
 
@@ -199,4 +199,12 @@ pub fn start_refusal(by: Starting, now: Time, length: usize, measurement: u8) ->
     refused_if(wrong_length(Some(length)), Refusal::ImageLength)?;
     refused_if(turned_down(by, measurement), Refusal::ReservedCode)?;
     refused_if(late(now), Refusal::TimeLimit)
+}
+
+// Whether a call is accepted: its number is 0.
+#[tactic(auto, unfolding(crate::specs::Table::number), using(crate::proofs::Theorems::Values::refused_number))]
+pub fn is_accepted(outcome: Result<(), Refusal>) -> bool
+    ensures { result ≡ eqb (Table.number outcome) 0 }
+{
+    outcome.is_ok()
 }

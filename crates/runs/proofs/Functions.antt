@@ -1,5 +1,5 @@
 -- The code's replies are the definitions', there is one to every call, and no contract asks anything.
-use Rattle.std.specs.Prelude.{Option, Some, None}
+use Rattle.std.specs.Prelude.{Option, Some, None, Err, Ok}
 use Prim.Native.Nat.{ℕ}
 use mathlib.Core.Path.{◌≡◌, refl, sym, ap, subst, ◌∙◌}
 use mathlib.Core.Bool.{Bool, true, false, cond}
@@ -20,7 +20,7 @@ use Rattle.calls.specs.declared.types.Timed.{Timed}
 use Rattle.calls.specs.declared.types.Call.{Call}
 use Rattle.calls.specs.declared.types.Starting.{Starting}
 use Rattle.calls.specs.declared.types.Refusal.{Refusal}
-use Rattle.calls.specs.declared.types.Outcome.{Outcome}
+use Rattle.calls.specs.Table.{Outcome}
 use Rattle.calls.specs.Facts.{facts}
 use Rattle.calls.specs.Table as T
 use Rattle.calls.proofs.Theorems.Left.{temperature_accepted, select_accepted, view_accepted}
@@ -109,12 +109,12 @@ served_is {s} (Serves.stored_image {now = now} {n = n} κs lent left r o h p q) 
 -- for each number that the table gives there is an answer
 row_answer : {n : ℕ} (found : Bool) (why : Refusal) → (o : Outcome) × (T.number o ≡ n) → (o : Outcome) × (T.number o ≡ cond found (T.refusal_number why) n)
 unfolding T.number
-row_answer true why r = (Outcome.Refused why, refl)
+row_answer true why r = (Err why, refl)
 row_answer false why r = r
 
 accepted_answer : (o : Outcome) × (T.number o ≡ 0)
 unfolding T.number
-accepted_answer = (Outcome.Accepted, refl)
+accepted_answer = ((Ok tt), refl)
 
 outcome_of : (last : Time) (d : Option Time) (l : Levels) (c : Call) → (o : Outcome) × (T.number o ≡ T.refusal last d l c)
 unfolding T.refusal T.first_found T.refusal_number

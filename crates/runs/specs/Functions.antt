@@ -17,7 +17,7 @@ use Rattle.spi.specs.declared.types.Drive.{Drive}
 use Rattle.calls.specs.declared.types.Timed.{Timed}
 use Rattle.calls.specs.declared.types.Call.{Call}
 use Rattle.calls.specs.declared.types.Starting.TheVariants as Starting
-use Rattle.calls.specs.declared.types.Outcome.{Outcome}
+use Rattle.calls.specs.Table.{Outcome}
 use Rattle.calls.specs.Table as T
 use Rattle.sensor.specs.declared.types.Viewed.{Viewed}
 use Rattle.waits.specs.declared.types.Report.{Report}

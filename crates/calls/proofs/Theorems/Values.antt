@@ -1,8 +1,8 @@
 -- The number fixes what a call answers.
-use Rattle.std.specs.Prelude.{ℕ, ◌≡◌, refl, false, cond, eqb, Result, Ok, Err}
+use Rattle.std.specs.Prelude.{ℕ, ◌≡◌, refl, false, cond, eqb, Ok, Err}
 use Rattle.std.proofs.Common.{sym, ap, ◌∙◌}
 use Rattle.calls.specs.declared.types.Refusal.{Refusal}
-use Rattle.calls.specs.Table.{refusal_number, number}
+use Rattle.calls.specs.Table.{Outcome, refusal_number, number}
 
 -- the refusal that has a number, and what is answered with one
 abbrev refusal : ℕ → Refusal
@@ -15,10 +15,10 @@ refusal n =
     (cond (eqb n 6) Refusal.NotDue
     (cond (eqb n 7) Refusal.Command (cond (eqb n 8) Refusal.PinJump Refusal.ReservedCode)))))))
 
-abbrev outcome : ℕ → Result (Unit {0}) Refusal
+abbrev outcome : ℕ → Outcome
 outcome n = cond (eqb n 0) (Ok tt) (Err (refusal n))
 
-outcome_number : (o : Result (Unit {0}) Refusal) → outcome (number o) ≡ o
+outcome_number : (o : Outcome) → outcome (number o) ≡ o
 unfolding number refusal_number
 outcome_number (Ok _) = refl
 outcome_number (Err Refusal.ImageLength) = refl
@@ -31,7 +31,7 @@ outcome_number (Err Refusal.Command) = refl
 outcome_number (Err Refusal.PinJump) = refl
 outcome_number (Err Refusal.ReservedCode) = refl
 
-pub number_injective : (a b : Result (Unit {0}) Refusal) → number a ≡ number b → a ≡ b
+pub number_injective : (a b : Outcome) → number a ≡ number b → a ≡ b
 number_injective a b p = sym (outcome_number a) ∙ ap outcome p ∙ outcome_number b
 
 -- no refusal has the number 0

@@ -15,7 +15,7 @@ unfolding put_in adds unless_refused
 returns-then-is_accepted-clause-buffer_after c =
     let n = c.refusal-outcome.ensures in
     let l = c.lines.ensures in
-    let d = c.interaction_deadline.ensures in
+    let d = c.interaction_deadline-due.ensures in
     let e = sym c.is_accepted.ensures ∙ c.if-is_accepted.true in
     c.hand_out.ensures ∙ c.nonvolatile-image.ensures ∙ rw (← d, ← l, ← n, e)
 
@@ -24,6 +24,6 @@ unfolding put_in adds unless_refused
 returns-else-is_accepted-clause-buffer_after c =
     let n = c.refusal-outcome.ensures in
     let l = c.lines.ensures in
-    let d = c.interaction_deadline.ensures in
+    let d = c.interaction_deadline-due.ensures in
     let e = sym c.is_accepted.ensures ∙ c.if-is_accepted.false in
     rw (← d, ← l, ← n, e)

@@ -10,13 +10,13 @@ use Rattle.bma150.specs.Called.{reported}
 use mathlib.Core.Path.{◌≡◌, sym, ap, ◌∙◌}
 use Rattle.bma150.proofs.host.Bma150.timed.Goals as goal
 
-pub returns-then-is_accepted-clause-report_value : goal.returns-then-is_accepted-clause-report_value
+pub returns-clause-report_value : goal.returns-clause-report_value
 unfolding report_values reported leaves adds unless_refused
-returns-then-is_accepted-clause-report_value c =
+returns-clause-report_value c =
     let a = c.args in
-    let d = c.interaction_deadline.ensures in
+    let d = c.interaction_deadline-due.ensures in
     let l = c.lines.ensures in
     let n : number c.refusal-outcome.result ≡ refusal a.self.last (interaction_deadline a.self.sensor) a.self.sensor.kept.lines (Call.At a.now a.t) = rw (d, l) at c.refusal-outcome.ensures in
-    let e = sym c.is_accepted.ensures ∙ c.if-is_accepted.true in
-    let f = c.effect-b.ensures ∙ ap (λ (s : Sensor). effect s a.now a.t) c.sync_local_until-a.ensures in
+    let e = sym c.is_accepted.ensures ∙ c.if-not-is_accepted.false in
+    let f = c.effect-after.ensures ∙ ap (λ (s : Sensor). effect s a.now a.t) c.sync_local_until.ensures in
     rw (← n, e, f) (reports_added _ a.now a.t)
