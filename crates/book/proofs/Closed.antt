@@ -1,9 +1,9 @@
 -- After a return from 0 mV the stored bytes are the closed form and every write is over; and the writes are those of the definitions' own run.
+use Rattle.std.specs.Prelude.{None}
 use Prim.Native.Nat.{ℕ}
 use mathlib.Core.Path.{◌≡◌, refl, sym, ap, ◌∙◌}
 use mathlib.Core.Bool.{cond}
 use mathlib.Core.List.{List, [], ◌∷◌}
-use mathlib.Core.Option.{none}
 use Rattle.time.specs.declared.Time.{Time}
 use Rattle.calls.specs.declared.types.Call.{Call}
 use Rattle.bma150.specs.declared.host.Bma150.{Bma150}
@@ -25,12 +25,12 @@ module _ (b : Start) (cs : List Call) (now : Time) (rail : ℕ) (h : Returns b c
   stored_closed = claim.stored b cs now rail h ∙ ap Added.put (cells_are b h.start_accepted (ending cs now rail))
 
   -- and no write runs: each has completed or was cut
-  pub all_over : that_runs (writes b (ending cs now rail)) ≡ none
+  pub all_over : that_runs (writes b (ending cs now rail)) ≡ None
   unfolding running_of
   all_over =
       sym (running_is b h.start_accepted (ending cs now rail))
       ∙ ap (λ (k : Book). k.running) (book_is b cs now rail h)
-      ∙ ap (λ (x : Bma150). running_of x.sensor.writing.operation) (left_fresh b cs now rail h)
+      ∙ ap (λ (x : Bma150). running_of x.sensor.writing) (left_fresh b cs now rail h)
 
 seen_is : (s : Bma150) → Sound (core s.sensor) → (cs : List Call) → Fractions cs → entries (read s) cs ≡ seen s cs
 unfolding entries seen

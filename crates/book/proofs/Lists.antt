@@ -112,7 +112,7 @@ pub start_book : (b : Start) → start_number b.by b.time b.image ≡ 0 → open
 unfolding running_of
 start_book b p =
     let e = start_is b p in
-    ap (λ (x : Core). book x.cells (running_of x.writing.operation) (struck (L.started b))) (sym (ap (λ (x : Bma150). core x.sensor) e))
+    ap (λ (x : Core). book x.cells (running_of x.writing) (struck (L.started b))) (sym (ap (λ (x : Bma150). core x.sensor) e))
 
 -- after every list, not only one that ends in a return, the book's cells and running write are the sensor's
 pub book_follows : (b : Start) → start_number b.by b.time b.image ≡ 0 → (cs : List Call) → Fractions cs → booked (opened b) cs ≡ read (after (L.started b) cs)

@@ -1,4 +1,5 @@
 -- What holds of every sensor of a list, and what acceptance says of a running write's end.
+use Rattle.std.specs.Prelude.{Option}
 use Rattle.std.specs.Prelude.{Some, None, ℤ}
 use Rattle.sensor.specs.Operation.{Operation}
 use Rattle.i2c.specs.declared.types.Levels.{Levels}
@@ -8,7 +9,6 @@ use native.Mathlib.Nat.{le_antisymm}
 use mathlib.Core.Path.{◌≡◌, refl, sym, ap, subst, ◌∙◌}
 use mathlib.Core.Bool.{Bool, true, false, cond, not}
 use mathlib.Core.List.{[], ◌∷◌, Memᴰ}
-use mathlib.Core.Option.{Option, none, some}
 use lib.Dec.{leb, eqb, lit≤}
 use lib.Arith.{digits_lt}
 use borrow.Author.Tests.{leb-true, leb-false, lt-leb, le-leb, eqb-true, eq-eqb}
@@ -39,8 +39,8 @@ use Rattle.book.proofs.Parts.{off}
 -- ---- a sensor as a book
 
 unfoldable pub running_of : Operation → Option Running
-running_of None = none
-running_of (Some (w, a, v)) = some (record { address = a; wanted = v; began = w.started })
+running_of None = None
+running_of (Some (w, a, v)) = Some (record { address = a; wanted = v; began = w.started })
 
 abbrev pub read : Bma150 → Book
 read s = book s.sensor.nonvolatile (running_of s.sensor.writing) (struck s)
@@ -52,8 +52,8 @@ operation_running (Some (w, a, v)) = refl
 
 pub running_operation : (r : Option Running) → running_of (operation r) ≡ r
 unfolding operation running_of
-running_operation none = refl
-running_operation (some w) = refl
+running_operation None = refl
+running_operation (Some w) = refl
 
 pub runs_running : (op : Operation) → B.runs (running_of op) ≡ Record.runs op
 unfolding B.runs Record.runs running_of

@@ -1,9 +1,9 @@
 -- One call: the book changes as the sensor does, and what holds of every sensor of a list goes on holding.
+use Rattle.std.specs.Prelude.{Option}
 use Rattle.std.specs.Prelude.{Some, None}
 use Rattle.sensor.specs.Operation.{Operation}
 use Prim.Native.Nat.{ℕ, ◌^◌, ◌<◌}
 use mathlib.Core.Path.{◌≡◌, refl, sym, ap, subst, ◌∙◌}
-use mathlib.Core.Option.{Option, none, some}
 use mathlib.Core.Bool.{Bool, true, false, cond, not, ◌&&◌, ◌||◌}
 use lib.Dec.{leb, ltb, eqb}
 use lib.IntN.{ℤ}
@@ -69,7 +69,7 @@ module _ (b : Bma150) (h : Sound (core b.sensor)) where
   -- ---- timed calls that neither begin nor end a write
 
   -- of a call that leaves the parts but for what is kept
-  same_parts : (now : Time) (x : Kept) (l : Core) (d : Does) → Timely s now → l ≡ keeping (core s) x → d.rail ≡ none → d.keeps s.kept ≡ x → Moved (core s) l d (completed (read b) now)
+  same_parts : (now : Time) (x : Kept) (l : Core) (d : Does) → Timely s now → l ≡ keeping (core s) x → d.rail ≡ None → d.keeps s.kept ≡ x → Moved (core s) l d (completed (read b) now)
   unfolding zeroed
   same_parts now x l d a e r q =
       let p : completed (read b) now ≡ read b = not_over b h now a.free in
@@ -117,7 +117,7 @@ module _ (b : Bma150) (h : Sound (core b.sensor)) where
           chosen false = record { cells = refl; running = refl; sound = h; supply = refl; kept = refl }
 
   -- such parts, but for what is kept, of a call that brings no supply
-  keeping_moved : (l : Core) (d : Does) (m : Book) (x : Kept) → Ended l m → d.rail ≡ none → d.keeps s.kept ≡ x → Moved (core s) (keeping l x) d m
+  keeping_moved : (l : Core) (d : Does) (m : Book) (x : Kept) → Ended l m → d.rail ≡ None → d.keeps s.kept ≡ x → Moved (core s) (keeping l x) d m
   unfolding zeroed
   keeping_moved l d m x r e f = record {
     cells = r.cells;
@@ -128,7 +128,7 @@ module _ (b : Bma150) (h : Sound (core b.sensor)) where
   }
 
   -- and of one that sets nothing
-  ended_is_moved : (l : Core) (d : Does) (m : Book) → Ended l m → d.rail ≡ none → ((k : Kept) → d.keeps k ≡ k) → Moved (core s) l d m
+  ended_is_moved : (l : Core) (d : Does) (m : Book) → Ended l m → d.rail ≡ None → ((k : Kept) → d.keeps k ≡ k) → Moved (core s) l d m
   ended_is_moved l d m r e f = keeping_moved l d m l.kept r e (f s.kept ∙ sym r.kept)
 
   moved_due : (now : Time) → is_at (interaction_deadline s) now ≡ true → Goes now Timed.Due
@@ -167,7 +167,7 @@ module _ (b : Bma150) (h : Sound (core b.sensor)) where
   unfolding cutting running_of
   uncut now o = ap (λ (x : Operation). cutting (running_of x) (read b) now) (idle o)
 
-  supply_moved : (now : Time) (rail : ℕ) → Moved (core s) (supply_to (core s) rail now) (supplying now rail) (supplied (some rail) (read b) now)
+  supply_moved : (now : Time) (rail : ℕ) → Moved (core s) (supply_to (core s) rail now) (supplying now rail) (supplied (Some rail) (read b) now)
   unfolding supplied zeroed is_set running_of
   supply_moved now rail = go (ltb rail 2400) (high (ltb rail 2400) refl) (eqb rail 0) refl (is_off s) refl s.supply.cold refl
     where
@@ -205,8 +205,8 @@ module _ (b : Bma150) (h : Sound (core b.sensor)) where
   moved_supply : (now : Time) (rail : ℕ) → Timely s now → Goes now (Timed.Supply rail)
   unfolding effect timed_does changed_at began accepted_write
   moved_supply now rail a =
-      subst (λ (k : Book). Moved (core s) (core (served b now (Timed.Supply rail)).sensor) (supplying now rail) (supplied (some rail) k now)) (sym (not_over b h now a.free))
-      (subst (λ (l : Core). Moved (core s) l (supplying now rail) (supplied (some rail) (read b) now))
+      subst (λ (k : Book). Moved (core s) (core (served b now (Timed.Supply rail)).sensor) (supplying now rail) (supplied (Some rail) k now)) (sym (not_over b h now a.free))
+      (subst (λ (l : Core). Moved (core s) l (supplying now rail) (supplied (Some rail) (read b) now))
       (sym (supply_is (sync_local_until s now false) rail now ∙ ap (λ (k : Core). supply_to k rail now) (sync_keeps s now false).same))
       (supply_moved now rail))
 
@@ -223,7 +223,7 @@ module _ (b : Bma150) (h : Sound (core b.sensor)) where
       q = ap (λ (x : Core). x.writing) k.same
 
       same_test : accepted_write w u (B.runs (running_of s.writing)) ≡ accepted_write w u (is_writing u)
-      same_test = ap (λ (x : Bool). accepted_write w u x) (runs_running s.writing ∙ ap (λ (x : Operation). Record.runs x.operation) (sym q))
+      same_test = ap (λ (x : Bool). accepted_write w u x) (runs_running s.writing ∙ ap (λ (x : Operation). Record.runs x) (sym q))
 
       fine_of : (x : Option (ℕ × ℕ)) → w ≡ x → Fine (operation (of_write x now)) (is_off s)
       fine_of None e = tt
@@ -231,7 +231,7 @@ module _ (b : Bma150) (h : Sound (core b.sensor)) where
 
       chosen : (x : Bool) → Ended (with_running (core s) (cond x (operation (of_write w now)) u.writing)) (cond x (book s.nonvolatile (of_write w now) (struck b)) (read b))
       chosen true = record { cells = refl; running = sym (running_operation (of_write w now)); sound = record { fine = fine_of w refl; warm = h.warm; deaf = h.deaf }; supply = refl; kept = refl }
-      chosen false = record { cells = refl; running = ap (λ (x : Operation). running_of x.operation) (sym q); sound = record { fine = subst (λ (x : Operation). Fine x.operation (is_off s)) (sym q) h.fine; warm = h.warm; deaf = h.deaf }; supply = refl; kept = refl }
+      chosen false = record { cells = refl; running = ap (λ (x : Operation). running_of x) (sym q); sound = record { fine = subst (λ (x : Operation). Fine x (is_off s)) (sym q) h.fine; warm = h.warm; deaf = h.deaf }; supply = refl; kept = refl }
 
   -- SPI writes only with supply, since it is deselected without
   spi_selected : (u : Sensor) (mosi : Bool) (a v : ℕ) → spi_write u mosi ≡ Some (a, v) → u.frame.selected ≡ true
@@ -260,7 +260,7 @@ module _ (b : Bma150) (h : Sound (core b.sensor)) where
 
   -- a pin call whose edge makes the write w on u
   module _ (now : Time) (small : now.1 < 2 ^ 64) (a : Timely s now) (u : Sensor) (k : Keeps s u) (w : Option (ℕ × ℕ)) (live : (x v : ℕ) → w ≡ Some (x, v) → is_off s ≡ false) where
-    edge_moved : (t : Sensor) (d : Does) (x : Kept) → core t ≡ keeping (with_running (core u) (begun_writing w u now)) x → d.rail ≡ none → d.keeps s.kept ≡ x
+    edge_moved : (t : Sensor) (d : Does) (x : Kept) → core t ≡ keeping (with_running (core u) (begun_writing w u now)) x → d.rail ≡ None → d.keeps s.kept ≡ x
         → Moved (core s) (core t) d (began (completed (read b) now) (record { write = w; meets = u }) now)
     edge_moved t d x p e f =
         let c : core t ≡ keeping (with_running (core s) (begun_writing w u now)) x = p ∙ ap (λ (y : Core). keeping (with_running y (begun_writing w u now)) x) k.same in

@@ -1,4 +1,5 @@
 -- Demand 3 of the code.
+use Rattle.std.specs.Prelude.{None}
 use Rattle.std.specs.Prelude.{Option}
 use Prim.Native.Nat.{ℕ, ◌^◌, ◌<◌}
 use mathlib.Core.Path.{◌≡◌, refl, sym, ap, subst, ◌∙◌}
@@ -6,7 +7,6 @@ use mathlib.Core.Bool.{Bool, true, false, cond}
 use mathlib.Core.Logic.{inr}
 use mathlib.Core.List.{List, [], ◌∷◌}
 use native.Mathlib.Omega.{arith}
-use mathlib.Core.Option.{none}
 use lib.ListN.{length}
 use borrow.Author.Tests.{leb-true, le-leb, eqb-true, eq-eqb}
 use Rattle.time.specs.declared.Time.{Time}
@@ -114,7 +114,7 @@ same {b} {d} {cs} {ds} {now} r q fits ok k j kept further p o =
 
 -- the stored bytes by the latest write to each cell
 pub closed : {b : Start} {cs : List Call} {now : Time} {bytes : List ℕ} (r : Ran functions b cs) → Fractions cs → (k : Back r now bytes)
-    → let ws = writes b (ending cs now k.rail) in ((address : ℕ) → cell_byte bytes address ≡ told b.image address (latest address ws)) × (that_runs ws ≡ none)
+    → let ws = writes b (ending cs now k.rail) in ((address : ℕ) → cell_byte bytes address ≡ told b.image address (latest address ws)) × (that_runs ws ≡ None)
 closed {b} {cs} {now} r fits k = (
   λ address. ap (λ (l : List ℕ). cell_byte l address) (stored r fits k) ∙ by_latest b (start_taken r) (ending cs now k.rail) address,
   all_over b cs now k.rail (returns r fits k),

@@ -1,9 +1,9 @@
 -- Demand 3 is of something, up to the edges of every argument: lists of calls, computed, and the code's runs of them.
+use Rattle.std.specs.Prelude.{Option, Some}
 use Prim.Native.Nat.{ℕ, ◌+◌, ◌*◌, ◌-◌, ◌/◌, ◌^◌, ◌<◌}
 use mathlib.Core.Path.{◌≡◌, refl, sym, ap, ◌∙◌}
 use mathlib.Core.Bool.{true, false}
 use mathlib.Core.List.{List, [], ◌∷◌, ◌++◌}
-use mathlib.Core.Option.{Option, some}
 use lib.Dec.{leb, lit<}
 use lib.IntN.{pos, negsuc}
 use lib.ListN.{length}
@@ -199,7 +199,7 @@ last_rise = Call.At (time 0) (Timed.Rising true)
 
 -- what such a list leaves in the book
 abbrev begun : Option Running
-begun = some (record { address = 0x2c; wanted = 0xff; began = time 0 })
+begun = Some (record { address = 0x2c; wanted = 0xff; began = time 0 })
 
 -- the fractions of their times fit
 i2c_fractions : Fractions (i2c_before ++ i2c_within)

@@ -1,11 +1,11 @@
 -- Hosts that are wrong, each in one thing; demand 3 does not hold of them. They try the statement as must-fail edits try the code: one with fewer lists, fewer answers or less to say does not refuse them.
+use Rattle.std.specs.Prelude.{Option, Some}
 use Rattle.std.specs.Prelude.{None}
 use Prim.Native.Nat.{ℕ, ◌+◌, ◌/◌, ◌^◌, ◌<◌}
 use native.Mathlib.Omega.{arith}
 use mathlib.Core.Path.{◌≡◌, refl, sym, ap, ◌∙◌}
 use mathlib.Core.Bool.{true, false}
 use mathlib.Core.List.{List, [], ◌∷◌}
-use mathlib.Core.Option.{Option, none, some}
 use lib.Dec.{lit<, lit≤}
 use lib.IntN.{pos}
 use lib.ListN.{get_or}
@@ -233,7 +233,7 @@ pub record Counted : Type 0 where
 unfoldable pub counting : ℕ → Added → Added
 counting n Added.nothing = Added.nothing
 counting n (Added.report values) = Added.report values
-counting n (Added.viewed value mark) = Added.viewed (some n) mark
+counting n (Added.viewed value mark) = Added.viewed (Some n) mark
 counting n (Added.put bytes) = Added.put bytes
 
 abbrev pub answers_by_a_counter : Wrong
@@ -298,23 +298,23 @@ booked_byte cs now = get_or (booked (opened stock_start) (ending cs now 3000)).c
 
 -- what the answers to a further list end in
 unfoldable last_answer : List Answer → Option Answer
-last_answer [] = none
-last_answer (a ∷ []) = some a
+last_answer [] = None
+last_answer (a ∷ []) = Some a
 last_answer (a ∷ b ∷ l) = last_answer (b ∷ l)
 
 abbrev shown : Option Answer → Added
-shown none = Added.nothing
-shown (some a) = a.adds
+shown None = Added.nothing
+shown (Some a) = a.adds
 
 abbrev letter : Option Answer → ℕ
-letter none = 0
-letter (some a) = drive_letter a.data_output
+letter None = 0
+letter (Some a) = drive_letter a.data_output
 
 abbrev viewed : Added → ℕ
 viewed Added.nothing = 0
 viewed (Added.report values) = 0
-viewed (Added.viewed none mark) = 0
-viewed (Added.viewed (some b) mark) = b
+viewed (Added.viewed None mark) = 0
+viewed (Added.viewed (Some b) mark) = b
 viewed (Added.put bytes) = 0
 
 -- the answers of a wrong host to a further list, after the list cs and a return at 0

@@ -138,6 +138,6 @@ module _ (s : Bma150) (cs : List Call) (h : Chosen s.sensor) (n : left_frame s c
         let bit = sent_bit x 7 in
         ap (λ (k : Bma150). k.sensor.writing) (accepted_leaves (after s cs) c ok)
         ∙ ap (λ (k : Sensor). k.writing) (clocks met met_heard bit at past_end (ap (λ (f : Frame). f.turnaround) met_frame))
-        ∙ ap (λ (k : Operation). k.operation) (moved_writing _ (rise_done met bit at))
+        ∙ (moved_writing _ (rise_done met bit at))
         ∙ ap (λ (k : Sensor). k.writing) (written_at met bit at a x so_far met_frame completes)
         ∙ write_begins (with_frame met (F.fresh true)) a x at

@@ -163,10 +163,10 @@ module _ {b : Start} {a x : ℕ} {cut : Time} (w : Wanted b a x cut) where
   h2 = ee_w_written (awake_engine h1.0.awake _ _) h1.0.manual
 
   idle1 : s1.writing ≡ None
-  idle1 = ap (λ (o : Operation). o.operation) h1.1
+  idle1 = h1.1
 
   idle2 : s2.writing ≡ None
-  idle2 = ap (λ (o : Operation). o.operation) h2.1 ∙ idle1
+  idle2 = h2.1 ∙ idle1
 
   h3 : Manual t image false (meets s2 a x) s3 × (s3.writing ≡ Some (Cycle.start t, a, x))
   h3 = stored_written (awake_engine h2.0.awake _ _) h2.0.manual h2.2 idle2 a x w.first_cell w.last_cell
@@ -175,7 +175,7 @@ module _ {b : Start} {a x : ℕ} {cut : Time} (w : Wanted b a x cut) where
   h4 = sleep_written (awake_engine h3.0.awake _ _) h3.0.manual
 
   running4 : s4.writing ≡ Some (Cycle.start t, a, x)
-  running4 = ap (λ (o : Operation). o.operation) h4.1 ∙ h3.1
+  running4 = h4.1 ∙ h3.1
 
   pairs_go : Goes (host t (on_bus s0 (receives R.Control 0 0 0) (lines false false))) (pairs t a x) (host t (on_bus s4 (receives R.Control 0x0a 0 0) (lines false false)))
   pairs_go =

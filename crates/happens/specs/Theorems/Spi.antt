@@ -121,10 +121,10 @@ module _ {b : Start} {a x : ℕ} {cut : Time} (w : Wanted b a x cut) where
   h3 = ee_w_written h2.0.awake h2.0.manual
 
   idle2 : s2.writing ≡ None
-  idle2 = ap (λ (o : Operation). o.operation) h2.1
+  idle2 = h2.1
 
   idle3 : s3.writing ≡ None
-  idle3 = ap (λ (o : Operation). o.operation) h3.1 ∙ idle2
+  idle3 = h3.1 ∙ idle2
 
   h4 : Manual t b.image true s3 s4 × (s4.writing ≡ Some (Cycle.start t, a, x))
   h4 = stored_written h3.0.awake h3.0.manual h3.2 idle3 a x w.first_cell w.last_cell
@@ -146,7 +146,7 @@ module _ {b : Start} {a x : ℕ} {cut : Time} (w : Wanted b a x cut) where
       (frame_left h4.0.awake (running_undue (few_seconds w) (a_fraction w) h4.1) 0x0a 0x11 (lit< tt) (lit< tt) h5.0.frame)))))
 
   begins : Begins b a x (spi_writes t a x)
-  begins = record { selected = true; sensor = s5; goes = all_go; asleep = h5.0; running = ap (λ (o : Operation). o.operation) h5.1 ∙ h4.1; fits = fits t w.start_fraction a x }
+  begins = record { selected = true; sensor = s5; goes = all_go; asleep = h5.0; running = h5.1 ∙ h4.1; fits = fits t w.start_fraction a x }
 
 -- for every accepted start, every cell and byte and every moment of the cut there are SPI calls that make this write and this cut: right after the return the cell holds the cut rule's byte, and every other cell the start's
 pub every_write_happens_over_spi : (b : Start) (a x : ℕ) (cut : Time) → Wanted b a x cut → Happens OverSpi b a x cut
