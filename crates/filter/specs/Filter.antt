@@ -1,7 +1,6 @@
 -- The filter of three axes on the declared record, as `new`, `window`, `select` and `push` leave it.
 use Rattle.std.specs.Prelude.{ℕ, ◌+◌, ◌-◌, ◌*◌, ◌%◌, ◌^◌, min, Bool, not, List, ltb, get_or, set, replicate, ℤ, pos, if◌then◌else◌}
 use Rattle.filter.specs.declared.Filter.{Filter}
-use Rattle.filter.specs.declared.RingState.{RingState}
 use Rattle.filter.specs.Mean.{ring, mean}
 
 -- the shift of a bandwidth code: 6 - b, 7 as 6 (01), and so every greater number
@@ -14,13 +13,6 @@ window_of shift = 2 ^ min shift 6
 
 abbrev pub window : Filter → ℕ
 window f = window_of f.shift
-
--- a filter without its history, and with one
-abbrev pub places : Filter → RingState
-places f = record { next = f.next; count = f.count; shift = f.shift }
-
-abbrev pub joined : (history : List ℤ) → RingState → Filter
-joined history p = record { history = history; next = p.next; count = p.count; shift = p.shift }
 
 -- a new filter: three histories of 64 zeros, no code counted (01)
 abbrev pub made : (bandwidth : ℕ) → Filter

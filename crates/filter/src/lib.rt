@@ -4,7 +4,7 @@
 ghost use Rattle.std.specs.Prelude.{◌≡◌, ◌+◌, ◌-◌, ◌*◌, ◌^◌, ◌<◌, ◌≤◌, min, ◌+ℤ◌, take, drop};
 ghost use Rattle.std.specs.Int.Signed.{mag};
 ghost use Rattle.filter.specs.Mean.{ring, sumZ, mean};
-ghost use Rattle.filter.specs.Filter.{window_of, window, made, selected, places, joined, pushed, full, answered};
+ghost use Rattle.filter.specs.Filter.{window_of, window, made, selected, pushed, full, answered};
 
 // `history` holds the last 64 codes of each axis as a ring, axis * 64 and its place; `next` is the place that an axis
 // writes next and `count` how many codes it holds. The window is 2^shift.
@@ -24,47 +24,18 @@ pub struct Pushed {
     pub full: bool,
 }
 
-// A filter without its history, which is lent beside it.
-#[derive(Clone, Copy)]
-pub struct RingState {
-    next: [u8; 3],
-    count: [u8; 3],
-    shift: u8,
-}
-
-#[derive(Clone, Copy)]
-pub struct RingPushed {
-    pub places: RingState,
-    pub code: i16,
-    pub full: bool,
-}
-
-// The lesser of two numbers.
-fn lesser(x: usize, y: usize) -> usize
-    ensures { result ≡ min x y }
-{
-    if x < y { x } else { y }
-}
-
-// At most 6.
-fn least6(x: u8) -> u8
-    ensures { result ≡ min x 6 }
-{
-    if x < 6 { x } else { 6 }
-}
-
 // The window of a shift.
 fn window_of(shift: u8) -> u8
     ensures { result ≡ window_of shift }
 {
-    1u8 << least6(shift)
+    1u8 << shift.min(6)
 }
 
 // One code more, 64 at most.
 fn counted(count: u8) -> u8
     ensures { result ≡ min (count + 1) 64 }
 {
-    if count < 63 { count + 1 } else { 64 }
+    count.saturating_add(1).min(64)
 }
 
 // `sum` and the n codes from `from` on.
@@ -85,7 +56,7 @@ fn window_sum(history: &[i16; 192], base: usize, at: usize, window: usize) -> i3
     requires { (base ≤ 128) × (at < 64) × (1 ≤ window) × (window ≤ 64) }
     ensures { (result ≡ sumZ (take window (ring history.now base at))) × (mag result < window * 32768) }
 {
-    let below = lesser(at, window - 1);
+    let below = at.min(window - 1);
     let above = window - 1 - below;
     let sum = add_run(history, base + at - below, below, history[base + at] as i32);
     add_run(history, base + 64 - above, above, sum)
@@ -109,7 +80,7 @@ impl Filter {
             history: [0; 192],
             next: [0; 3],
             count: [0; 3],
-            shift: 6 - least6(bandwidth),
+            shift: 6 - bandwidth.min(6),
         }
     }
 
@@ -124,97 +95,40 @@ impl Filter {
     pub fn select(self, bandwidth: u8) -> Filter
         ensures { result ≡ selected self bandwidth }
     {
-        let mut f = self;
-        f.shift = 6 - least6(bandwidth);
-        f
+        let shift = 6 - bandwidth.min(6);
+        Filter { shift, ..self }
     }
 
-    // The codes of the three axes.
-    pub fn history(self) -> [i16; 192]
-        ensures { result ≡ self.history }
-    {
-        let history = self.history;
-        history
-    }
-
-    // All but the codes.
-    pub fn places(self) -> RingState
-        ensures { result ≡ places self }
-    {
-        let next = self.next;
-        let count = self.count;
-        RingState {
-            next: next,
-            count: count,
-            shift: self.shift,
-        }
-    }
-
-    // A code comes on an axis, and is answered by itself or by the mean.
-    pub fn push(self, axis: u8, code: i16) -> Pushed
+    // A code comes on an axis: the filter after it, and what it answers.
+    pub fn push(mut self, axis: u8, code: i16) -> Pushed
         ensures filter_value { result.filter ≡ pushed self axis code }
         ensures code_value { result.code ≡ answered self axis code }
         ensures full_value { result.full ≡ full self axis }
     {
-        let mut history = self.history;
-        let p = self.places();
-        let r = p.push(&mut history, axis, code);
-        let q = r.places;
+        let (code, full) = self.take_code(axis, code);
         Pushed {
-            filter: q.joined(history),
-            code: r.code,
-            full: r.full,
-        }
-    }
-}
-
-impl RingState {
-    // The filter of these places and a history.
-    pub fn joined(self, history: [i16; 192]) -> Filter
-        ensures { result ≡ joined history self }
-    {
-        let next = self.next;
-        let count = self.count;
-        Filter {
-            history: history,
-            next: next,
-            count: count,
-            shift: self.shift,
+            filter: self,
+            code,
+            full,
         }
     }
 
-    // How many codes the mean is of.
-    pub fn window(self) -> u8
-        ensures { result ≡ window_of self.shift }
-    {
-        window_of(self.shift)
-    }
-
-    // A code comes on an axis of the lent history, and is answered by itself or by the mean.
-    pub fn push(self, history: &mut [i16; 192], axis: u8, code: i16) -> RingPushed
-        ensures places_after { joined history.new result.places ≡ pushed (joined history.old self) axis code }
-        ensures code_value { result.code ≡ answered (joined history.old self) axis code }
-        ensures full_value { result.full ≡ full (joined history.old self) axis }
+    // The same where the filter is kept: a code is answered by itself, or by the mean of a full window; and whether it is the mean.
+    pub fn take_code(&mut self, axis: u8, code: i16) -> (i16, bool)
+        ensures filter_after { self.new ≡ pushed self.old axis code }
+        ensures code_value { result.0 ≡ answered self.old axis code }
+        ensures full_value { result.1 ≡ full self.old axis }
     {
         let a = (axis % 3) as usize;
         let place = (self.next[a] % 64) as usize;
         let count = counted(self.count[a]);
-        let mut p = self;
-        history[a * 64 + place] = code;
-        p.next[a] = ((place + 1) % 64) as u8;
-        p.count[a] = count;
-        if count < self.window() {
-            return RingPushed {
-                places: p,
-                code: code,
-                full: false,
-            };
+        self.history[a * 64 + place] = code;
+        self.next[a] = ((place + 1) % 64) as u8;
+        self.count[a] = count;
+        if count < window_of(self.shift) {
+            return (code, false);
         }
-        let mean = mean_of(history, a * 64, place, least6(self.shift));
-        RingPushed {
-            places: p,
-            code: mean,
-            full: true,
-        }
+        let mean = mean_of(&self.history, a * 64, place, self.shift.min(6));
+        (mean, true)
     }
 }

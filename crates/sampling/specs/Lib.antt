@@ -1,3 +1,2 @@
 pub mod Phase
 pub mod Stage
-pub mod Split

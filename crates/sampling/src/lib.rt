@@ -2,6 +2,5 @@
 #![tactic(auto)]
 
 pub mod phase;
-mod split;
 mod stage;
 pub mod types;

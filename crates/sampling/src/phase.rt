@@ -4,10 +4,9 @@ ghost use Rattle.time.specs.Clock as C;
 ghost use Rattle.analog.specs.Axis as Ax;
 ghost use Rattle.registers.specs.Map.{wake_up};
 ghost use Rattle.control.specs.Lengths.{acquisition_cycles};
-ghost use Rattle.sampling.specs.Split as Split;
 ghost use Rattle.sampling.specs.Phase as P;
 
-use crate::types::{Acquisition, AcquisitionScalars, Input, Sampling};
+use crate::types::{Acquisition, Input, Sampling};
 use analog::types::Axis;
 use control::lengths::acquisition_cycles;
 use registers::codes::{code, code_high, code_low, offset, temperature};
@@ -100,171 +99,133 @@ impl Sampling {
 }
 
 // The stage of an axis at the clock's last edge.
-fn lagged(t: AcquisitionScalars, input: Input, axis: u8) -> Axis
-    ensures { result ≡ Ax.advanced (Ax.axis_of t.analog axis) (C.last t.clock) (P.axis_input input axis) }
+fn lagged(s: &Sampling, input: Input, axis: u8) -> Axis
+    ensures { result ≡ Ax.advanced (Ax.axis_of s.now.analog axis) (C.last s.now.clock) (P.axis_input input axis) }
 {
-    let a = t.analog.axis(axis);
-    a.sample(t.clock.last(), axis_input(input, axis))
+    let a = s.analog.axis(axis);
+    a.sample(s.clock.last(), axis_input(input, axis))
 }
 
 // A code of an axis is filtered, and the answer shown.
-fn filtered_code(
-    registers: &mut [u8; 62],
-    history: &mut [i16; 192],
-    t: AcquisitionScalars,
-    axis: u8,
-    k: i16,
-) -> AcquisitionScalars
+fn filtered_code(c: &mut Acquisition, axis: u8, k: i16)
     requires { axis < 3 }
-    ensures { Split.joined registers.new history.new result ≡ P.filtered_code (Split.joined registers.old history.old t) axis k }
+    ensures { c.new ≡ P.filtered_code c.old axis k }
 {
     let a = axis as usize;
-    let p = t.places.push(history, axis, k);
-    registers[ACC_LSB + a * 2] = code_low(p.code);
-    registers[ACC_MSB + a * 2] = code_high(p.code);
-    let mut u = t;
-    u.places = p.places;
-    u.filtered[a] = p.code;
-    u.means[a] = p.full;
-    u.interrupts = t.interrupts.axis(axis, p.code, *registers);
-    u
+    let (answer, full) = c.sampling.filter.take_code(axis, k);
+    c.registers[ACC_LSB + a * 2] = code_low(answer);
+    c.registers[ACC_MSB + a * 2] = code_high(answer);
+    c.sampling.filtered[a] = answer;
+    c.sampling.means[a] = full;
+    c.interrupts = c.interrupts.axis(axis, answer, c.registers);
 }
 
 // The stage of an axis is sampled.
-fn measured(
-    registers: &mut [u8; 62],
-    history: &mut [i16; 192],
-    t: AcquisitionScalars,
-    input: Input,
-    axis: u8,
-) -> AcquisitionScalars
+fn measured(c: &mut Acquisition, input: Input, axis: u8)
     requires { axis < 3 }
-    ensures { Split.joined registers.new history.new result ≡ P.measured (Split.joined registers.old history.old t) input axis }
+    ensures { c.new ≡ P.measured c.old input axis }
 {
-    let b = lagged(t, input, axis);
-    let k = converted(registers, b.value(), axis);
-    let u = t.with_axis(axis, b);
-    filtered_code(registers, history, u, axis, k)
+    let a = lagged(&c.sampling, input, axis);
+    let k = converted(&c.registers, a.value(), axis);
+    c.sampling.analog = c.sampling.analog.with_axis(axis, a);
+    filtered_code(c, axis, k);
 }
 
 // The scan is complete: it is counted, and observed for motion.
 #[tactic(auto, unfolding(crate::specs::Phase::observed, crate::specs::Phase::observing, crate::specs::Phase::interval))]
-fn scanned(registers: &[u8; 62], t: AcquisitionScalars, needs: [u8; 4]) -> AcquisitionScalars
-    ensures { (h : List ℤ) → Split.joined registers.now h result ≡ P.observed (P.counted (Split.joined registers.now h t)) needs }
+fn scanned(c: &mut Acquisition, needs: [u8; 4])
+    ensures { c.new ≡ P.observed (P.counted c.old) needs }
 {
-    let operation = registers[OPERATION];
-    let window = t.places.window();
-    let cycles = t.auto_cycles.saturating_add(1);
-    let mut u = t;
-    u.data_ready = ready(*registers, t.data_ready);
-    u.auto_cycles = cycles;
+    let operation = c.registers[OPERATION];
+    let window = c.sampling.filter.window();
+    let cycles = c.sampling.auto_cycles.saturating_add(1);
+    c.sampling.data_ready = ready(c.registers, c.sampling.data_ready);
+    c.sampling.auto_cycles = cycles;
     if observing(operation, window, cycles) {
         let apart = interval(operation, window, cycles);
-        u.interrupts = t.interrupts.cycle(t.filtered, apart, *registers, needs);
+        c.interrupts = c
+            .interrupts
+            .cycle(c.sampling.filtered, apart, c.registers, needs);
     }
-    u
 }
 
-fn test_ended(registers: &mut [u8; 62], t: AcquisitionScalars) -> AcquisitionScalars
-    ensures { (h : List ℤ) → Split.joined registers.new h result ≡ P.test_ended (Split.joined registers.old h t) }
+fn test_ended(c: &mut Acquisition)
+    ensures { c.new ≡ P.test_ended c.old }
 {
-    registers[CONTROL] &= 0xfb;
-    registers[STATUS] |= 0x80;
-    t.with_test(None)
+    c.registers[CONTROL] &= 0xfb;
+    c.registers[STATUS] |= 0x80;
+    c.sampling.test = None;
 }
 
 #[tactic(auto, unfolding(crate::specs::Phase::axis_phase, crate::specs::Phase::scanned))]
-fn axis_phase(
-    registers: &mut [u8; 62],
-    history: &mut [i16; 192],
-    t: AcquisitionScalars,
-    input: Input,
-    phase: u8,
-    needs: [u8; 4],
-) -> AcquisitionScalars
+fn axis_phase(c: &mut Acquisition, input: Input, phase: u8, needs: [u8; 4])
     requires { (0 < phase) × (phase < 4) }
-    ensures { Split.joined registers.new history.new result ≡ P.axis_phase t.test (Split.joined registers.old history.old t) input phase needs }
+    ensures { c.new ≡ P.axis_phase c.old.sampling.test c.old input phase needs }
 {
-    match t.test {
+    match c.sampling.test {
         None => {
-            let u = measured(registers, history, t, input, phase - 1);
+            measured(c, input, phase - 1);
             if phase == 3 {
-                return scanned(registers, u, needs);
+                scanned(c, needs);
             }
-            u
         }
         Some(left) => {
             if phase == 3 && left == 0 {
-                return test_ended(registers, t);
+                test_ended(c);
             }
-            t
         }
     }
 }
 
 // The phase of the clock's last edge.
 #[tactic(auto, unfolding(crate::specs::Phase::sample_phase))]
-fn sample_phase(
-    registers: &mut [u8; 62],
-    history: &mut [i16; 192],
-    t: AcquisitionScalars,
-    input: Input,
-    needs: [u8; 4],
-) -> AcquisitionScalars
-    ensures { Split.joined registers.new history.new result ≡ P.sample_phase (Split.joined registers.old history.old t) input needs }
+fn sample_phase(c: &mut Acquisition, input: Input, needs: [u8; 4])
+    ensures { c.new ≡ P.sample_phase c.old input needs }
 {
-    let phase = ((t.clock.ordinal % 4 + 3) % 4) as u8;
-    let u = t.with_test(test_counted(t.test));
+    let phase = ((c.sampling.clock.ordinal % 4 + 3) % 4) as u8;
+    c.sampling.test = test_counted(c.sampling.test);
     if phase == 0 {
-        registers[TEMP] = temperature(input.temperature_millicelsius);
-        return u;
+        c.registers[TEMP] = temperature(input.temperature_millicelsius);
+        return;
     }
-    axis_phase(registers, history, u, input, phase, needs)
+    axis_phase(c, input, phase, needs);
 }
 
 // A millisecond passes at every twelfth edge.
 #[tactic(auto, unfolding(crate::specs::Phase::ticked, crate::specs::Phase::ticks_now, crate::specs::Phase::observing))]
-fn ticked(registers: &[u8; 62], t: AcquisitionScalars) -> AcquisitionScalars
-    ensures { (h : List ℤ) → Split.joined registers.now h result ≡ P.ticked (Split.joined registers.now h t) }
+fn ticked(c: &mut Acquisition)
+    ensures { c.new ≡ P.ticked c.old }
 {
-    let mut u = t;
-    if t.clock.ordinal % 12 == 0
-        && observing(registers[OPERATION], t.places.window(), t.auto_cycles)
+    if c.sampling.clock.ordinal % 12 == 0
+        && observing(
+            c.registers[OPERATION],
+            c.sampling.filter.window(),
+            c.sampling.auto_cycles,
+        )
     {
-        u.interrupts = t.interrupts.millisecond(*registers);
+        c.interrupts = c.interrupts.millisecond(c.registers);
     }
-    u
 }
 
 // The clock's next edge: its phase, and the millisecond.
 #[tactic(auto, unfolding(crate::specs::Phase::sample))]
-fn sample(
-    registers: &mut [u8; 62],
-    history: &mut [i16; 192],
-    t: AcquisitionScalars,
-    input: Input,
-    needs: [u8; 4],
-) -> AcquisitionScalars
-    ensures { Split.joined registers.new history.new result ≡ P.sample input needs (Split.joined registers.old history.old t) }
+fn sample(c: &mut Acquisition, input: Input, needs: [u8; 4])
+    ensures { c.new ≡ P.sample input needs c.old }
 {
-    let mut u = t;
-    u.clock = t.clock.advance(1);
-    let v = sample_phase(registers, history, u, input, needs);
-    ticked(registers, v)
+    c.sampling.clock = c.sampling.clock.advance(1);
+    sample_phase(c, input, needs);
+    ticked(c);
 }
 
 impl Acquisition {
     // The phases of n edges, one after the other.
     #[tactic(auto, unfolding(laws::specs::Iterate::iterate))]
-    pub fn samples(self, n: u64, input: Input, needs: [u8; 4]) -> Acquisition
+    pub fn samples(mut self, n: u64, input: Input, needs: [u8; 4]) -> Acquisition
         ensures { result ≡ P.samples n self input needs }
     {
-        let mut registers = self.registers;
-        let mut history = self.sampling.filter.history();
-        let mut t = self.scalars();
         for _ in 0..n {
-            t = sample(&mut registers, &mut history, t, input, needs);
+            sample(&mut self, input, needs);
         }
-        t.joined(registers, history)
+        self
     }
 }

@@ -1,6 +1,6 @@
 // What a sample phase needs and changes.
 use analog::types::Analog;
-use filter::{Filter, RingState};
+use filter::Filter;
 use interrupts::Interrupts;
 use time::Clock;
 
@@ -33,19 +33,4 @@ pub struct Acquisition {
     pub registers: [u8; 62],
     pub sampling: Sampling,
     pub interrupts: Interrupts,
-}
-
-// An acquisition without its registers and its filter's history, which are lent beside it.
-#[derive(Clone, Copy)]
-pub(crate) struct AcquisitionScalars {
-    pub(crate) places: RingState,
-    pub(crate) filtered: [i16; 3],
-    pub(crate) means: [bool; 3],
-    pub(crate) clock: Clock,
-    pub(crate) analog: Analog,
-    pub(crate) asleep: bool,
-    pub(crate) auto_cycles: u16,
-    pub(crate) test: Option<u8>,
-    pub(crate) data_ready: bool,
-    pub(crate) interrupts: Interrupts,
 }

@@ -7,7 +7,7 @@ use Rattle.filter.proofs.Sums.{wide, two_runs}
 use Rattle.filter.proofs.window_sum.Goals as goal
 
 pub returns : goal.returns
-returns c = let x = c.args in let h = x.history.now in let below = c.lesser-below.result in let above = x.window - 1 - below in
+returns c = let x = c.args in let h = x.history.now in let below = c.min-below.result in let above = x.window - 1 - below in
     let f : SFits w16 (get_or h (x.base + x.at) (pos 0)) = search rules in
     let newest = of_fits f in
     let a = wide newest in

@@ -9,4 +9,4 @@ pub loop-preserved : goal.loop-preserved
 unfolding iterate
 loop-preserved c =
     let a = c.args in
-    (omega arith, rw add-one (c.sample-t.ensures ∙ ap (sample a.input a.needs) c.loop.invariant.1))
+    (omega arith, rw add-one (c.sample.ensures ∙ ap (sample a.input a.needs) c.loop.invariant.1))
