@@ -1,20 +1,15 @@
--- Products that fit, and the mask of crossed bits put together bit by bit.
-use mathlib.Core.Path.{◌≡◌, subst⁻¹, ◌∙◌}
+-- The mask of crossed bits, put together bit by bit.
+use mathlib.Core.Path.{◌≡◌, refl, ap, ◌∙◌}
 use mathlib.Core.Bool.{Bool, true, false}
 use Prim.Native.Nat.{ℕ, zero, suc, ◌+◌, ◌*◌, ◌%◌, ◌^◌, ◌≤◌, ◌<◌}
-use native.Mathlib.Nat.{mul-le-mul_right, mul-le-mul_left, mul-lt-mul_of_pos_right, lt_of_le_of_lt, le_of_lt, one-mul, pow-suc}
+use native.Mathlib.Nat.{mul-le-mul_right, one-mul, pow-suc}
 use native.Mathlib.Numerals.{add-one}
 use native.Mathlib.Omega.{arith}
-use lib.Pow.{pow-add, pow_pos, shl_exact}
+use lib.Pow.{shl_exact}
 use lib.Bits.{bit_or, or_shifted_r}
+use mir.Val.{bool_byte}
 use Rattle.nv.specs.Cell.{bits_where}
 use Rattle.laws.specs.Bytes.{bit_value}
-
--- a product of two numbers of k bits fits twice the bits
-pub product : (k : ℕ) {a b : ℕ} → a < 2 ^ k → b < 2 ^ k → a * b < 2 ^ (k + k)
-product k {a} {b} ha hb =
-    subst⁻¹ (λ (n : ℕ). a * b < n) (pow-add 2 k k)
-    (lt_of_le_of_lt (mul-le-mul_left a (le_of_lt hb)) (mul-lt-mul_of_pos_right ha (pow_pos k)))
 
 pub bit_value_lt : (t : Bool) → bit_value t < 2
 bit_value_lt true = omega arith
@@ -33,10 +28,16 @@ put m b n p q r =
     let e : b * 2 ^ n % 2 ^ 8 ≡ b * 2 ^ n = shl_exact 1 n 8 q (omega arith) in
     rw (e, or_shifted_r b n m p) (omega arith)
 
+-- a cast of a bit
+cast : (t : Bool) → bool_byte t ≡ bit_value t
+cast true = refl
+cast false = refl
+
 -- one turn of the loop over the bits
-pub turn : (f : ℕ → Bool) (n m b : ℕ) → n < 8 → m ≡ bits_where n f → b ≡ bit_value (f n) → bit_or m (b * 2 ^ n % 2 ^ 8) ≡ bits_where (n + 1) f
+pub turn : (f : ℕ → Bool) (n m : ℕ) (t : Bool) → n < 8 → m ≡ bits_where n f → t ≡ f n → bit_or m (bool_byte t * 2 ^ n % 2 ^ 8) ≡ bits_where (n + 1) f
 unfolding bits_where
-turn f n m b r p q =
-    let l : b < 2 = rw q (bit_value_lt (f n)) in
+turn f n m t r p q =
+    let e : bool_byte t ≡ bit_value (f n) = cast t ∙ ap bit_value q in
+    let l : bool_byte t < 2 = rw e (bit_value_lt (f n)) in
     let h : m < 2 ^ n = rw p (bits_lt n f) in
-    rw add-one (put m b n h l r ∙ cc)
+    rw add-one (put m (bool_byte t) n h l r ∙ cc)

@@ -14,7 +14,8 @@ passed now started d p q e = ap lasts e ∙ lasts_since (ticks now) (ticks start
 ended : (d : Duration) (n : ℕ) → lasts d ≡ n → 0 < d.0 → write_length ≤ n
 ended d n e p = omega arith
 
-pub returns-then-elapsed-gt0 : goal.returns-then-elapsed-gt0
-returns-then-elapsed-gt0 c = let x = c.args in let d = c.since-elapsed.result in
-    let e = passed x.now x.self.started d (omega arith) (omega arith) c.since-elapsed.ensures in
-    sym (end_is_wanted x.old x.target x.cell (ticks x.now - ticks x.self.started) (omega arith) (ended d (ticks x.now - ticks x.self.started) e c.if-elapsed-gt0.true))
+pub returns-in_default : goal.returns-in_default
+returns-in_default c = let x = c.args in let d = c.since.result in
+    let e = passed x.now x.self.started d (omega arith) (omega arith) c.since.ensures in
+    let p : 0 < d.0 = omega arith in
+    sym (end_is_wanted x.old x.target x.cell (ticks x.now - ticks x.self.started) (omega arith) (ended d (ticks x.now - ticks x.self.started) e p))
