@@ -1,4 +1,4 @@
--- The mask of crossed bits, put together bit by bit.
+-- When a bit crosses, and the mask of crossed bits, put together bit by bit.
 use mathlib.Core.Path.{◌≡◌, refl, ap, ◌∙◌}
 use mathlib.Core.Bool.{Bool, true, false}
 use Prim.Native.Nat.{ℕ, zero, suc, ◌+◌, ◌*◌, ◌%◌, ◌^◌, ◌≤◌, ◌<◌}
@@ -8,8 +8,19 @@ use native.Mathlib.Omega.{arith}
 use lib.Pow.{shl_exact}
 use lib.Bits.{bit_or, or_shifted_r}
 use mir.Val.{bool_byte}
-use Rattle.nv.specs.Cell.{bits_where}
+use Rattle.nv.specs.Cell.{crossing, bits_where}
+use Rattle.std.proofs.Common.{◌/◌, add-mul, mul_assoc, mul_comm, lit<}
+use Rattle.std.proofs.Math.Nat.{add-mul-div_right}
 use Rattle.laws.specs.Bytes.{bit_value}
+
+-- a product by 65536, from the quotient and the remainder of one factor
+pub crossing_is : (d t : ℕ) → d * t / 65536 ≡ crossing d t
+unfolding crossing
+crossing_is d t =
+    let q : d ≡ d / 65536 * 65536 + d % 65536 = omega arith in
+    let e : d * t ≡ d % 65536 * t + d / 65536 * t * 65536 =
+    ap (λ (n : ℕ). n * t) q ∙ omega (arith, add-mul (d / 65536 * 65536) (d % 65536) t, mul_assoc (d / 65536) 65536 t, mul_comm 65536 t, mul_assoc (d / 65536) t 65536) in
+    ap (λ (n : ℕ). n / 65536) e ∙ add-mul-div_right (d % 65536 * t) (d / 65536 * t) (lit< tt) ∙ omega arith
 
 pub bit_value_lt : (t : Bool) → bit_value t < 2
 bit_value_lt true = omega arith

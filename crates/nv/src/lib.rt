@@ -9,7 +9,7 @@ ghost use Rattle.nv.specs.Cycle as W;
 use time::{Duration, Time};
 
 // The length of a write, 28 ms, in units of 2^-64 s.
-const WRITE: u64 = 516508834063867445;
+const WRITE: u64 = ((28u128 << 64) / 1000) as u64;
 
 // Its first part, in which the cell is erased.
 const ERASE: u64 = WRITE / 2;
@@ -43,7 +43,7 @@ fn threshold(cell: u32, bit: u8) -> u16
 }
 
 // Whether a bit of a cell has crossed.
-#[tactic(auto, unfolding(crate::specs::Cell::crossing))]
+#[tactic(auto, using(crate::proofs::Masks::crossing_is))]
 fn crossed_bit(cell: u32, elapsed: u64, duration: u64, bit: u8) -> bool
     ensures { result ≡ C.has_crossed cell elapsed duration bit }
 {
@@ -52,7 +52,7 @@ fn crossed_bit(cell: u32, elapsed: u64, duration: u64, bit: u8) -> bool
 }
 
 // The bits that have crossed.
-#[tactic(auto, unfolding(crate::specs::Cell::bits_where))]
+#[tactic(auto, using(crate::proofs::Masks::turn), unfolding(crate::specs::Cell::bits_where))]
 fn crossed(cell: u32, elapsed: u64, duration: u64) -> u8
     ensures { result ≡ C.crossed cell elapsed duration }
 {
@@ -64,6 +64,7 @@ fn crossed(cell: u32, elapsed: u64, duration: u64) -> u8
 }
 
 // The byte of a cell less than a second after its write began.
+#[tactic(auto, unfolding(crate::specs::Cell::byte))]
 fn byte_after(old: u8, target: u8, cell: u32, elapsed: u64) -> u8
     ensures { result ≡ C.byte old target cell elapsed }
 {
@@ -92,6 +93,7 @@ impl WriteCycle {
     }
 
     // The byte of the cell now: `old` before the write, `target` once it has ended.
+    #[tactic(auto, using(crate::specs::Theorems::Laws::end_is_wanted))]
     pub fn byte(self, old: u8, target: u8, cell: u32, now: Time) -> u8
         ensures { result ≡ W.byte_at self old target cell now }
     {
