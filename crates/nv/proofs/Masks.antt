@@ -1,20 +1,26 @@
--- Products that fit, and the mask of crossed bits put together bit by bit.
-use mathlib.Core.Path.{◌≡◌, subst⁻¹, ◌∙◌}
+-- When a bit crosses, and the mask of crossed bits, put together bit by bit.
+use mathlib.Core.Path.{◌≡◌, refl, ap, ◌∙◌}
 use mathlib.Core.Bool.{Bool, true, false}
 use Prim.Native.Nat.{ℕ, zero, suc, ◌+◌, ◌*◌, ◌%◌, ◌^◌, ◌≤◌, ◌<◌}
-use native.Mathlib.Nat.{mul-le-mul_right, mul-le-mul_left, mul-lt-mul_of_pos_right, lt_of_le_of_lt, le_of_lt, one-mul, pow-suc}
+use native.Mathlib.Nat.{mul-le-mul_right, one-mul, pow-suc}
 use native.Mathlib.Numerals.{add-one}
 use native.Mathlib.Omega.{arith}
-use lib.Pow.{pow-add, pow_pos, shl_exact}
+use lib.Pow.{shl_exact}
 use lib.Bits.{bit_or, or_shifted_r}
-use Rattle.nv.specs.Cell.{bits_where}
+use mir.Val.{bool_byte}
+use Rattle.nv.specs.Cell.{crossing, bits_where}
+use Rattle.std.proofs.Common.{◌/◌, add-mul, mul_assoc, mul_comm, lit<}
+use Rattle.std.proofs.Math.Nat.{add-mul-div_right}
 use Rattle.laws.specs.Bytes.{bit_value}
 
--- a product of two numbers of k bits fits twice the bits
-pub product : (k : ℕ) {a b : ℕ} → a < 2 ^ k → b < 2 ^ k → a * b < 2 ^ (k + k)
-product k {a} {b} ha hb =
-    subst⁻¹ (λ (n : ℕ). a * b < n) (pow-add 2 k k)
-    (lt_of_le_of_lt (mul-le-mul_left a (le_of_lt hb)) (mul-lt-mul_of_pos_right ha (pow_pos k)))
+-- a product by 65536, from the quotient and the remainder of one factor
+pub crossing_is : (d t : ℕ) → d * t / 65536 ≡ crossing d t
+unfolding crossing
+crossing_is d t =
+    let q : d ≡ d / 65536 * 65536 + d % 65536 = omega arith in
+    let e : d * t ≡ d % 65536 * t + d / 65536 * t * 65536 =
+    ap (λ (n : ℕ). n * t) q ∙ omega (arith, add-mul (d / 65536 * 65536) (d % 65536) t, mul_assoc (d / 65536) 65536 t, mul_comm 65536 t, mul_assoc (d / 65536) t 65536) in
+    ap (λ (n : ℕ). n / 65536) e ∙ add-mul-div_right (d % 65536 * t) (d / 65536 * t) (lit< tt) ∙ omega arith
 
 pub bit_value_lt : (t : Bool) → bit_value t < 2
 bit_value_lt true = omega arith
@@ -33,10 +39,16 @@ put m b n p q r =
     let e : b * 2 ^ n % 2 ^ 8 ≡ b * 2 ^ n = shl_exact 1 n 8 q (omega arith) in
     rw (e, or_shifted_r b n m p) (omega arith)
 
+-- a cast of a bit
+cast : (t : Bool) → bool_byte t ≡ bit_value t
+cast true = refl
+cast false = refl
+
 -- one turn of the loop over the bits
-pub turn : (f : ℕ → Bool) (n m b : ℕ) → n < 8 → m ≡ bits_where n f → b ≡ bit_value (f n) → bit_or m (b * 2 ^ n % 2 ^ 8) ≡ bits_where (n + 1) f
+pub turn : (f : ℕ → Bool) (n m : ℕ) (t : Bool) → n < 8 → m ≡ bits_where n f → t ≡ f n → bit_or m (bool_byte t * 2 ^ n % 2 ^ 8) ≡ bits_where (n + 1) f
 unfolding bits_where
-turn f n m b r p q =
-    let l : b < 2 = rw q (bit_value_lt (f n)) in
+turn f n m t r p q =
+    let e : bool_byte t ≡ bit_value (f n) = cast t ∙ ap bit_value q in
+    let l : bool_byte t < 2 = rw e (bit_value_lt (f n)) in
     let h : m < 2 ^ n = rw p (bits_lt n f) in
-    rw add-one (put m b n h l r ∙ cc)
+    rw add-one (put m (bool_byte t) n h l r ∙ cc)

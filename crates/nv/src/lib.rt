@@ -9,7 +9,7 @@ ghost use Rattle.nv.specs.Cycle as W;
 use time::{Duration, Time};
 
 // The length of a write, 28 ms, in units of 2^-64 s.
-const WRITE: u64 = 516508834063867445;
+const WRITE: u64 = ((28u128 << 64) / 1000) as u64;
 
 // Its first part, in which the cell is erased.
 const ERASE: u64 = WRITE / 2;
@@ -18,16 +18,9 @@ const ERASE: u64 = WRITE / 2;
 const PROGRAM: u64 = WRITE - ERASE;
 
 // A stored write that runs. It ends `WRITE` units after its start.
-#[derive(Clone, Copy)]
+#[derive(Clone, Copy, Debug, PartialEq, Eq)]
 pub struct WriteCycle {
     pub started: Time,
-}
-
-// x * y modulo 2^32.
-fn wrapping_mul(x: u32, y: u32) -> u32
-    ensures { result ≡ C.wrapping_mul x y }
-{
-    ((x as u64) * (y as u64) % 4294967296) as u32
 }
 
 // One round of the mixer.
@@ -36,7 +29,7 @@ fn mixed(shift: u32, factor: u32, key: u32) -> u32
     requires { shift < 32 }
     ensures { result ≡ C.mixed shift factor key }
 {
-    wrapping_mul(key ^ (key >> shift), factor)
+    (key ^ (key >> shift)).wrapping_mul(factor)
 }
 
 // The threshold of a bit of a cell, from 1 to 65535.
@@ -44,36 +37,34 @@ fn mixed(shift: u32, factor: u32, key: u32) -> u32
 fn threshold(cell: u32, bit: u8) -> u16
     ensures { result ≡ C.threshold cell bit }
 {
-    let mut key = cell ^ wrapping_mul(0x9e37_79b9, bit as u32 + 1);
-    key = mixed(16, 0x7feb_352d, key);
-    key = mixed(15, 0x846c_a68b, key);
-    let low = ((key ^ (key >> 16)) & 0xffff) as u16;
-    if low < 1 { 1 } else { low }
+    let key = cell ^ 0x9e37_79b9u32.wrapping_mul(bit as u32 + 1);
+    let key = mixed(15, 0x846c_a68b, mixed(16, 0x7feb_352d, key));
+    ((key ^ (key >> 16)) & 0xffff).max(1) as u16
 }
 
-// 1 if a bit of a cell has crossed, else 0.
-#[tactic(auto, unfolding(crate::specs::Cell::crossing))]
-fn crossed_bit(cell: u32, elapsed: u64, duration: u64, bit: u8) -> u8
-    ensures { result ≡ Bytes.bit_value (C.has_crossed cell elapsed duration bit) }
+// Whether a bit of a cell has crossed.
+#[tactic(auto, using(crate::proofs::Masks::crossing_is))]
+fn crossed_bit(cell: u32, elapsed: u64, duration: u64, bit: u8) -> bool
+    ensures { result ≡ C.has_crossed cell elapsed duration bit }
 {
-    let t = threshold(cell, bit) as u64;
-    let at = duration / 65536 * t + duration % 65536 * t / 65536;
-    if at <= elapsed { 1 } else { 0 }
+    let at = (duration as u128 * threshold(cell, bit) as u128) >> 16;
+    at <= elapsed as u128
 }
 
 // The bits that have crossed.
-#[tactic(auto, unfolding(crate::specs::Cell::bits_where))]
+#[tactic(auto, using(crate::proofs::Masks::turn), unfolding(crate::specs::Cell::bits_where))]
 fn crossed(cell: u32, elapsed: u64, duration: u64) -> u8
     ensures { result ≡ C.crossed cell elapsed duration }
 {
-    let mut mask = 0u8;
-    for bit in 0..8u8 {
-        mask |= crossed_bit(cell, elapsed, duration, bit) << bit;
+    let mut mask = 0;
+    for bit in 0..8 {
+        mask |= (crossed_bit(cell, elapsed, duration, bit) as u8) << bit;
     }
     mask
 }
 
 // The byte of a cell less than a second after its write began.
+#[tactic(auto, unfolding(crate::specs::Cell::byte))]
 fn byte_after(old: u8, target: u8, cell: u32, elapsed: u64) -> u8
     ensures { result ≡ C.byte old target cell elapsed }
 {
@@ -98,19 +89,17 @@ impl WriteCycle {
     pub fn deadline(self) -> Time
         ensures { result ≡ W.deadline self }
     {
-        let started = self.started;
-        started.plus(Duration(0, WRITE))
+        self.started.plus(Duration(0, WRITE))
     }
 
     // The byte of the cell now: `old` before the write, `target` once it has ended.
+    #[tactic(auto, using(crate::specs::Theorems::Laws::end_is_wanted))]
     pub fn byte(self, old: u8, target: u8, cell: u32, now: Time) -> u8
         ensures { result ≡ W.byte_at self old target cell now }
     {
-        let started = self.started;
-        let elapsed = now.since(started);
-        if 0 < elapsed.0 {
-            return target;
+        match now.since(self.started) {
+            Duration(0, elapsed) => byte_after(old, target, cell, elapsed),
+            _ => target,
         }
-        byte_after(old, target, cell, elapsed.1)
     }
 }

@@ -5,156 +5,128 @@ ghost use Rattle.std.specs.Prelude.{◌≡◌, ◌+◌, ◌-◌, ◌*◌, ◌/�
 ghost use Rattle.time.specs.Time as T;
 ghost use Rattle.time.specs.Clock as C;
 
-use std::num::wrapping_add_u64;
+// The edges of the clock in a second.
+const RATE: u64 = 12000;
+
+// The low word of a number of units.
+const LOW: u128 = u64::MAX as u128;
 
 // A moment: whole seconds and a fraction in units of 2^-64 s.
-#[derive(Clone, Copy, PartialEq, Eq, PartialOrd, Ord)]
+#[derive(Clone, Copy, Debug, PartialEq, Eq, PartialOrd, Ord)]
 pub struct Time(pub u64, pub u64);
 
 // A length of time: whole seconds and a fraction in units of 2^-64 s.
-#[derive(Clone, Copy, PartialEq, Eq, PartialOrd, Ord)]
+#[derive(Clone, Copy, Debug, PartialEq, Eq, PartialOrd, Ord)]
 pub struct Duration(pub u64, pub u64);
 
 // The clock that samples: its start, and the number of the last edge that it advanced to.
-#[derive(Clone, Copy)]
+#[derive(Clone, Copy, Debug, PartialEq, Eq)]
 pub struct Clock {
     pub start: Time,
     pub ordinal: u64,
 }
 
 impl Time {
+    // The units since the start of time.
+    fn ticks(self) -> u128
+        ensures { result ≡ T.ticks self }
+    {
+        (self.0 as u128) << 64 | self.1 as u128
+    }
+
+    // The moment of so many units.
+    fn from_ticks(ticks: u128) -> Time
+        ensures { result ≡ T.time ticks }
+    {
+        Time((ticks >> 64) as u64, (ticks & LOW) as u64)
+    }
+
     // This moment and a length later, modulo 2^128 units.
     pub fn plus(self, d: Duration) -> Time
         ensures { result ≡ T.plus self d }
     {
-        let low = wrapping_add_u64(self.1, d.1);
-        let high = wrapping_add_u64(self.0, d.0);
-        if low < self.1 {
-            return Time(wrapping_add_u64(high, 1), low);
-        }
-        Time(high, low)
+        Time::from_ticks(self.ticks().wrapping_add(d.ticks()))
     }
 
     // The length from an earlier moment to this one; none where that is later.
     pub fn since(self, earlier: Time) -> Duration
         ensures { result ≡ T.since self earlier }
     {
-        if self.0 < earlier.0 {
-            return Duration(0, 0);
-        }
-        if earlier.1 <= self.1 {
-            return Duration(self.0 - earlier.0, self.1 - earlier.1);
-        }
-        if self.0 == earlier.0 {
-            return Duration(0, 0);
-        }
-        Duration(self.0 - earlier.0 - 1, self.1 + (u64::MAX - earlier.1) + 1)
+        Duration::from_ticks(self.ticks().saturating_sub(earlier.ticks()))
     }
 
     // One unit later; the last moment stays.
     pub fn next_unit(self) -> Time
         ensures { result ≡ T.next_unit self }
     {
-        if self.1 < u64::MAX {
-            return Time(self.0, self.1 + 1);
-        }
-        if self.0 < u64::MAX {
-            return Time(self.0 + 1, 0);
-        }
-        self
+        Time::from_ticks(self.ticks().saturating_add(1))
     }
 
     // Whether this moment lies strictly before another.
     pub fn precedes(self, other: Time) -> bool
         ensures { result ≡ T.precedes self other }
     {
-        if self.0 < other.0 {
-            return true;
-        }
-        if other.0 < self.0 {
-            return false;
-        }
-        self.1 < other.1
+        self < other
     }
 
     // Whether this moment and another are one.
     pub fn same(self, other: Time) -> bool
         ensures { result ≡ T.same self other }
     {
-        if self.0 == other.0 {
-            return self.1 == other.1;
-        }
-        false
+        self == other
     }
 }
 
 impl Duration {
+    // The units that it lasts.
+    fn ticks(self) -> u128
+        ensures { result ≡ T.lasts self }
+    {
+        (self.0 as u128) << 64 | self.1 as u128
+    }
+
+    // The length of so many units.
+    fn from_ticks(ticks: u128) -> Duration
+        ensures { result ≡ T.duration ticks }
+    {
+        Duration((ticks >> 64) as u64, (ticks & LOW) as u64)
+    }
+
+    // n of the N equal parts of a second, rounded down to units. `((n as u128) << 64) / N` is proved too, but that
+    // division takes 45 ns where this takes 5, and each sample phase, of 63 ns, asks for an edge.
+    fn of_parts<const N: u64>(n: u64) -> Duration
+        requires { (1 < N) × (N < 2 ^ 32) }
+        ensures { result ≡ T.duration (n * 2 ^ 64 / N) }
+    {
+        let second = 1u128 << 64;
+        let whole = (second / N as u128) as u64;
+        let rest = (second % N as u128) as u64;
+        let part = n % N;
+        Duration(n / N, part * whole + part * rest / N)
+    }
+
     // A number of milliseconds, rounded down to units.
     pub fn from_millis(ms: u64) -> Duration
         ensures { result ≡ T.from_millis ms }
     {
-        let part = ms % 1000 * 4294967296;
-        Duration(
-            ms / 1000,
-            part / 1000 * 4294967296 + part % 1000 * 4294967296 / 1000,
-        )
+        Duration::of_parts::<1000>(ms)
     }
 
     // A number of microseconds, rounded down to units.
     pub fn from_micros(us: u64) -> Duration
         ensures { result ≡ T.from_micros us }
     {
-        let part = us % 1000000 * 4294967296;
-        Duration(
-            us / 1000000,
-            part / 1000000 * 4294967296 + part % 1000000 * 4294967296 / 1000000,
-        )
+        Duration::of_parts::<1000000>(us)
     }
-}
-
-// The length from a clock's start to its edge n: 2^64 is 12000 * 1537228672809129 + 3616.
-fn edge_offset(n: u64) -> Duration
-    ensures { result ≡ T.duration (C.edge_ticks n) }
-{
-    let part = n % 12000;
-    Duration(n / 12000, part * 1537228672809129 + part * 3616 / 12000)
-}
-
-// How many edges lie in the first `fraction + 1` units of a second.
-fn edges_within(fraction: u64) -> u64
-    ensures { (result ≡ (12000 * fraction + 11999) / 2 ^ 64) × (result < 12000) }
-{
-    let high = fraction / 4294967296 * 12000;
-    let low = (fraction % 4294967296 * 12000 + 11999) / 4294967296;
-    (high + low) / 4294967296
-}
-
-// The same for whole seconds more, held to 64 bits.
-fn edges_up_to(seconds: u64, fraction: u64) -> u64
-    ensures { result ≡ min (2 ^ 64 - 1) ((12000 * (seconds * 2 ^ 64 + fraction) + 11999) / 2 ^ 64) }
-{
-    let part = edges_within(fraction);
-    if 1537228672809129 < seconds {
-        return u64::MAX;
-    }
-    let whole = 12000 * seconds;
-    if u64::MAX - whole < part {
-        return u64::MAX;
-    }
-    whole + part
 }
 
 // How many edges lie strictly before the end of a length that begins at edge 0, without that edge.
 fn edges_in(d: Duration) -> u64
     ensures { result ≡ min (2 ^ 64 - 1) ((12000 * T.lasts d - 1) / 2 ^ 64) }
 {
-    if 0 < d.1 {
-        return edges_up_to(d.0, d.1 - 1);
-    }
-    if 0 < d.0 {
-        return edges_up_to(d.0 - 1, u64::MAX);
-    }
-    0
+    let ticks = d.ticks().saturating_sub(1);
+    let part = ((ticks & LOW) * RATE as u128 + 11999) >> 64;
+    ((ticks >> 64) * RATE as u128 + part).min(LOW) as u64
 }
 
 impl Clock {
@@ -172,26 +144,23 @@ impl Clock {
     pub fn last(self) -> Time
         ensures { result ≡ C.last self }
     {
-        let start = self.start;
-        start.plus(edge_offset(self.ordinal))
+        self.start.plus(Duration::of_parts::<RATE>(self.ordinal))
     }
 
     // The moment of the edge after it.
     pub fn next(self) -> Time
         ensures { result ≡ C.next self }
     {
-        let c = self.advance(1);
-        c.last()
+        self.advance(1).last()
     }
 
     // The clock some edges further.
     pub fn advance(self, edges: u64) -> Clock
         ensures { result ≡ C.advanced self edges }
     {
-        let start = self.start;
         Clock {
-            start: start,
-            ordinal: wrapping_add_u64(self.ordinal, edges),
+            ordinal: self.ordinal.wrapping_add(edges),
+            ..self
         }
     }
 
@@ -206,11 +175,6 @@ impl Clock {
     pub fn edges_before(self, limit: Time) -> u64
         ensures { result ≡ C.edges_before self limit }
     {
-        let start = self.start;
-        let edges = edges_in(limit.since(start));
-        if edges < self.ordinal {
-            return 0;
-        }
-        edges - self.ordinal
+        edges_in(limit.since(self.start)).saturating_sub(self.ordinal)
     }
 }

@@ -1,9 +1,12 @@
-use Rattle.std.proofs.Common.{◌≡◌, ◌*◌, ◌%◌, arith}
+use Rattle.std.proofs.Common.{◌≡◌, ℕ, ◌*◌, ◌%◌, Bool, true, false, bit_or, arith}
 use Rattle.std.proofs.lemmas.Nat.{or_shifted}
+use mir.Val.{bool_byte}
+use Rattle.laws.specs.Bytes.{shifted_in}
 use Rattle.laws.proofs.shifted_in.Goals as goal
 
-pub returns-then-bit : goal.returns-then-bit
-returns-then-bit c =
-    let x = c.args.byte in
-    let e : x * 2 % 256 ≡ x % 128 * 2 = omega arith in
-    rw (c.if-bit.true, e) (or_shifted (x % 128) 1 1 (omega arith))
+joined : (x : ℕ) (b : Bool) → bit_or (x * 2 % 256) (bool_byte b) ≡ shifted_in x b
+joined x true = let e : x * 2 % 256 ≡ x % 128 * 2 = omega arith in rw e (or_shifted (x % 128) 1 1 (omega arith))
+joined x false = let e : x * 2 % 256 ≡ x % 128 * 2 = omega arith in rw e (or_shifted (x % 128) 1 0 (omega arith))
+
+pub returns : goal.returns
+returns c = joined c.args.byte c.args.bit
