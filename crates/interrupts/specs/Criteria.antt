@@ -1,7 +1,6 @@
--- The high-g and low-g criteria: a threshold with hysteresis on each axis, and the time that it has held. `high` tells high-g from low-g.
+-- The high-g and low-g criteria: a threshold with hysteresis on each axis, and the time that it has held. `high` tells high-g from low-g, and so does the number h of a state's type: 1 high-g, 0 low-g.
 use Rattle.std.specs.Prelude.{ℕ, ◌+◌, ◌-◌, ◌*◌, Bool, true, false, not, ◌&&◌, ◌||◌, List, leb, ltb, eqb, get_or, set, replicate, ℤ, nat_abs, if◌then◌else◌}
 use Rattle.interrupts.specs.declared.threshold.Threshold.{Threshold}
-use Rattle.interrupts.specs.declared.threshold.Ticked.{Ticked}
 
 -- 01: high-g sets an axis at |code| × 255 ≥ threshold × 512; low-g mirrors this
 unfoldable pub sets : (high : Bool) (code : ℤ) (threshold : ℕ) → Bool
@@ -26,16 +25,14 @@ active high axes =
     else get_or axes 0 false && get_or axes 1 false && get_or axes 2 false
 
 -- the axes after a code on one of them
-abbrev axes_after : Threshold → (axis : ℕ) (code : ℤ) (threshold hysteresis : ℕ) (high : Bool) → List Bool
+abbrev axes_after : {h : ℕ} → Threshold h → (axis : ℕ) (code : ℤ) (threshold hysteresis : ℕ) (high : Bool) → List Bool
 axes_after t axis code threshold hysteresis high = set t.axes axis (raised high code threshold hysteresis (get_or t.axes axis false))
 
 -- the Rust's `observe`: a criterion that is no longer met ends its level at once
-unfoldable pub observe : Threshold → (axis : ℕ) (code : ℤ) (threshold hysteresis : ℕ) (high : Bool) → Threshold
-observe t axis code threshold hysteresis high = record {
+unfoldable pub observe : {h : ℕ} → Threshold h → (axis : ℕ) (code : ℤ) (threshold hysteresis : ℕ) (high : Bool) → Threshold h
+observe t axis code threshold hysteresis high = record t {
   axes = axes_after t axis code threshold hysteresis high;
-  count = t.count;
   level = active high (axes_after t axis code threshold hysteresis high) && t.level;
-  latched = t.latched;
 }
 
 -- 01: fires when the raised count exceeds duration
@@ -55,25 +52,24 @@ unfoldable pub counted : (enabled met : Bool) (count duration mode : ℕ) → �
 counted enabled met count duration mode = if enabled then (if met then counted_up count duration else counted_down count mode) else 0
 
 -- a criterion fires
-abbrev pub fired : Threshold → (high enabled : Bool) (duration : ℕ) → Bool
+abbrev pub fired : {h : ℕ} → Threshold h → (high enabled : Bool) (duration : ℕ) → Bool
 fired t high enabled duration = fires enabled (active high t.axes) t.count duration
 
--- the Rust's `tick`, a millisecond: a disabled criterion has no count and no level; what is latched stays
-abbrev pub tick : Threshold → (high enabled : Bool) (duration mode : ℕ) → Ticked
-tick t high enabled duration mode = record {
-  threshold = record {
-    axes = t.axes;
+-- the Rust's `tick`, a millisecond, and whether it fired: a disabled criterion has no count and no level; what is latched stays
+abbrev pub tick : {h : ℕ} → Threshold h → (high enabled : Bool) (duration mode : ℕ) → Threshold h × Bool
+tick t high enabled duration mode = (
+  record t {
     count = counted enabled (active high t.axes) t.count duration mode;
     level = enabled && (fired t high enabled duration || t.level);
     latched = fired t high enabled duration || t.latched;
-  };
-  fired = fired t high enabled duration;
-}
+  },
+  fired t high enabled duration,
+)
 
 -- acquisition starts anew: level and latch stay (the Rust's `restart_acquisition`)
-abbrev pub restarted : Threshold → Threshold
-restarted t = record { axes = replicate 3 false; count = 0; level = t.level; latched = t.latched }
+abbrev pub restarted : {h : ℕ} → Threshold h → Threshold h
+restarted t = record t { axes = replicate 3 false; count = 0 }
 
 -- reset_INT: the axes stay (the Rust's `reset`)
-abbrev pub cleared : Threshold → Threshold
-cleared t = record { axes = t.axes; count = 0; level = false; latched = false }
+abbrev pub cleared : {h : ℕ} → Threshold h → Threshold h
+cleared t = record t { count = 0; level = false; latched = false }

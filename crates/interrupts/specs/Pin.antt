@@ -29,7 +29,7 @@ motion_output s registers =
     && shown (latch_INT (at registers operation)) s.motion_latched s.motion_level
 
 -- an enabled criterion shows its latch or its level
-unfoldable pub threshold_output : Threshold → (enabled latch : Bool) → Bool
+unfoldable pub threshold_output : {h : ℕ} → Threshold h → (enabled latch : Bool) → Bool
 threshold_output t enabled latch = enabled && shown latch t.latched t.level
 
 -- the criteria's part of the interrupt pin
@@ -51,7 +51,7 @@ verifying_motion s registers =
     && (ltb s.observations 4 || s.motion_active)
 
 -- an enabled criterion that is met
-unfoldable pub candidate : Threshold → (high enabled : Bool) → Bool
+unfoldable pub candidate : {h : ℕ} → Threshold h → (high enabled : Bool) → Bool
 candidate t high enabled = enabled && active high t.axes
 
 -- a candidate is being verified, which keeps the sensor awake (the Rust's rule)

@@ -3,88 +3,31 @@ use Rattle.std.specs.Prelude.{ℕ, ◌+◌, ◌-◌, ◌*◌, ◌%◌, min, Bool
 use Rattle.laws.specs.Notation.{Registers}
 use Rattle.registers.specs.Map.{at, criteria, LG_thres, LG_dur, HG_thres, HG_dur, any_motion_thres, hysteresis, operation, alert, any_motion, enable_HG, enable_LG, counter_HG, counter_LG, any_motion_dur, HG_hyst, LG_hyst, enable_adv_INT}
 use Rattle.interrupts.specs.declared.threshold.Threshold.{Threshold}
-use Rattle.interrupts.specs.declared.threshold.Ticked.{Ticked}
 use Rattle.interrupts.specs.declared.Interrupts.{Interrupts}
 use Rattle.interrupts.specs.Criteria.{observe, tick, restarted, cleared}
 
 -- ---- parts set anew
 
--- s with other thresholds
-abbrev pub with_thresholds : Interrupts → (low high : Threshold) → Interrupts
-with_thresholds s low high = record {
-  low_g = low;
-  high_g = high;
-  history = s.history;
-  cursor = s.cursor;
-  observations = s.observations;
-  divider = s.divider;
-  motion_set = s.motion_set;
-  motion_clear = s.motion_clear;
-  motion_active = s.motion_active;
-  motion_level = s.motion_level;
-  motion_latched = s.motion_latched;
-  alert = s.alert;
-  durations = s.durations;
-}
+-- s with other thresholds, that of low-g (0) and that of high-g (1)
+abbrev pub with_thresholds : Interrupts → (low : Threshold 0) (high : Threshold 1) → Interrupts
+with_thresholds s low high = record s { low_g = low; high_g = high }
 
 -- s with another history, cursor, number of observations and divider
-abbrev pub with_history : Interrupts → (history : List ℤ) (cursor observations divider : ℕ) → Interrupts
-with_history s history cursor observations divider = record {
-  low_g = s.low_g;
-  high_g = s.high_g;
-  history = history;
-  cursor = cursor;
-  observations = observations;
-  divider = divider;
-  motion_set = s.motion_set;
-  motion_clear = s.motion_clear;
-  motion_active = s.motion_active;
-  motion_level = s.motion_level;
-  motion_latched = s.motion_latched;
-  alert = s.alert;
-  durations = s.durations;
-}
+abbrev pub with_history : Interrupts → (history : List (List ℤ)) (cursor observations divider : ℕ) → Interrupts
+with_history s history cursor observations divider = record s { history = history; cursor = cursor; observations = observations; divider = divider }
 
 -- s with other counts and flags of motion
 abbrev pub with_motion : Interrupts → (set clear : ℕ) (active level latched : Bool) → Interrupts
-with_motion s set clear active level latched = record {
-  low_g = s.low_g;
-  high_g = s.high_g;
-  history = s.history;
-  cursor = s.cursor;
-  observations = s.observations;
-  divider = s.divider;
-  motion_set = set;
-  motion_clear = clear;
-  motion_active = active;
-  motion_level = level;
-  motion_latched = latched;
-  alert = s.alert;
-  durations = s.durations;
-}
+with_motion s set clear active level latched = record s { motion_set = set; motion_clear = clear; motion_active = active; motion_level = level; motion_latched = latched }
 
 -- s with another alert and other working durations
 abbrev pub with_alert : Interrupts → (alert : Bool) (durations : List ℕ) → Interrupts
-with_alert s alert durations = record {
-  low_g = s.low_g;
-  high_g = s.high_g;
-  history = s.history;
-  cursor = s.cursor;
-  observations = s.observations;
-  divider = s.divider;
-  motion_set = s.motion_set;
-  motion_clear = s.motion_clear;
-  motion_active = s.motion_active;
-  motion_level = s.motion_level;
-  motion_latched = s.motion_latched;
-  alert = alert;
-  durations = durations;
-}
+with_alert s alert durations = record s { alert = alert; durations = durations }
 
 -- ---- start, configuration, reset
 
 -- a threshold of a new sensor
-abbrev pub idle : Threshold
+abbrev pub idle : {h : ℕ} → Threshold h
 idle = record { axes = replicate 3 false; count = 0; level = false; latched = false }
 
 -- 01: defaults are all zero or false
@@ -92,7 +35,7 @@ abbrev pub new : Interrupts
 new = record {
   low_g = idle;
   high_g = idle;
-  history = replicate 9 (pos 0);
+  history = replicate 3 (replicate 3 (pos 0));
   cursor = 0;
   observations = 0;
   divider = 0;
@@ -140,26 +83,26 @@ axis s number code registers =
 
 -- where the observation three earlier stands, and the next one goes (specs/History.antt)
 abbrev pub place : Interrupts → ℕ
-place s = s.cursor % 3 * 3
+place s = s.cursor % 3
+
+-- the observation that stands there
+abbrev pub earlier : Interrupts → List ℤ
+earlier s = get_or s.history (place s) []
 
 -- a code differs from an earlier one by any_motion_thres × 4 or more (the Rust's rule)
 unfoldable pub moved : (new old : ℤ) (threshold : ℕ) → Bool
 moved new old threshold = leb (threshold * 4) (nat_abs (new -ℤ old))
 
 -- 01: motion compares with three observations earlier; one axis is enough (the Rust's rule)
-unfoldable pub moves : (history : List ℤ) (place : ℕ) (codes : List ℤ) (threshold : ℕ) → Bool
-moves history place codes threshold =
-    moved (get_or codes 0 (pos 0)) (get_or history place (pos 0)) threshold
-    || moved (get_or codes 1 (pos 0)) (get_or history (place + 1) (pos 0)) threshold
-    || moved (get_or codes 2 (pos 0)) (get_or history (place + 2) (pos 0)) threshold
-
--- three codes put in the history
-abbrev pub put : (history : List ℤ) (place : ℕ) (codes : List ℤ) → List ℤ
-put history place codes = set (set (set history place (get_or codes 0 (pos 0))) (place + 1) (get_or codes 1 (pos 0))) (place + 2) (get_or codes 2 (pos 0))
+unfoldable pub moves : (earlier codes : List ℤ) (threshold : ℕ) → Bool
+moves earlier codes threshold =
+    moved (get_or codes 0 (pos 0)) (get_or earlier 0 (pos 0)) threshold
+    || moved (get_or codes 1 (pos 0)) (get_or earlier 1 (pos 0)) threshold
+    || moved (get_or codes 2 (pos 0)) (get_or earlier 2 (pos 0)) threshold
 
 -- an observation: with the fourth, three earlier ones stand
 abbrev pub record_codes : Interrupts → (codes : List ℤ) → Interrupts
-record_codes s codes = with_history s (put s.history (place s) codes) ((s.cursor % 3 + 1) % 3) (min 4 (s.observations + 1)) 0
+record_codes s codes = with_history s (set s.history (place s) codes) ((s.cursor % 3 + 1) % 3) (min 4 (s.observations + 1)) 0
 
 -- how many in a row have moved, and how many have not, to 255
 unfoldable pub count_motion : Interrupts → (active : Bool) → Interrupts
@@ -193,7 +136,7 @@ decide s need registers =
 unfoldable pub observation : Interrupts → (codes : List ℤ) (registers : Registers) (need : ℕ) → Interrupts
 observation s codes registers need =
     if leb 3 s.observations
-    then decide (count_motion (record_codes s codes) (moves s.history (place s) codes (at registers any_motion_thres))) need registers
+    then decide (count_motion (record_codes s codes) (moves (earlier s) codes (at registers any_motion_thres))) need registers
     else record_codes s codes
 
 -- one observation in `window` cycles; `needs` has 01's numbers in a row, 1, 3, 5 or 7, by any_motion_dur
@@ -210,16 +153,16 @@ unfoldable pub shorten : Interrupts → Interrupts
 shorten s = if s.alert then with_alert s s.alert ((get_or s.durations 0 0 - 1) ∷ (get_or s.durations 1 0 - 1) ∷ []) else s
 
 -- low-g counts: enable_LG, LG_dur as it is now, counter_LG
-abbrev pub tick_low : Interrupts → (registers : Registers) → Ticked
+abbrev pub tick_low : Interrupts → (registers : Registers) → Threshold 0 × Bool
 tick_low s registers = tick s.low_g false (enable_LG (at registers criteria)) (get_or s.durations 0 0) (counter_LG (at registers criteria))
 
 -- high-g counts: enable_HG, HG_dur as it is now, counter_HG
-abbrev pub tick_high : Interrupts → (registers : Registers) → Ticked
+abbrev pub tick_high : Interrupts → (registers : Registers) → Threshold 1 × Bool
 tick_high s registers = tick s.high_g true (enable_HG (at registers criteria)) (get_or s.durations 1 0) (counter_HG (at registers criteria))
 
 -- both criteria count
 abbrev pub ticked : Interrupts → (registers : Registers) → Interrupts
-ticked s registers = with_thresholds s (tick_low s registers).threshold (tick_high s registers).threshold
+ticked s registers = with_thresholds s (tick_low s registers).0 (tick_high s registers).0
 
 -- the alert is over: its durations have fallen to 0 (the Rust's rule)
 unfoldable pub lapsed : Interrupts → Bool
@@ -228,7 +171,7 @@ lapsed s = s.alert && eqb (get_or s.durations 0 0) 0 && eqb (get_or s.durations 
 -- a criterion that fires, or an alert that is over, ends the alert and sets the durations anew
 unfoldable pub ended : Interrupts → (registers : Registers) → Interrupts
 ended s registers =
-    if (tick_low s registers).fired || (tick_high s registers).fired || lapsed s
+    if (tick_low s registers).1 || (tick_high s registers).1 || lapsed s
     then with_alert (ticked s registers) false (durations_of registers)
     else ticked s registers
 

@@ -1,42 +1,18 @@
 // What the interrupt state shows.
-ghost use Rattle.std.specs.Prelude.{◌≡◌, ◌≤◌};
-ghost use Rattle.interrupts.specs.Pin.{weigh, status, shown, motion_output, threshold_output, output, enables_motion, candidate, verifying_motion, verifying};
+ghost use Rattle.std.specs.Prelude.{◌≡◌};
+ghost use Rattle.interrupts.specs.Pin.{status, shown, motion_output, threshold_output, output, enables_motion, candidate, verifying_motion, verifying};
 
 use crate::Interrupts;
-use crate::threshold::{Threshold, active};
+use crate::threshold::Threshold;
 use registers::fields::{
     ALERT, ANY_MOTION, CRITERIA, ENABLE_ADV_INT, ENABLE_HG, ENABLE_LG, LATCH_INT, OPERATION, has,
 };
-
-// A bit by its weight.
-fn weigh(field: bool, weight: u8) -> u8
-    ensures { (result ≡ weigh field weight) × (result ≤ weight) }
-{
-    if field {
-        return weight;
-    }
-    0
-}
 
 // The latch or the level.
 fn shown(latch: bool, latched: bool, level: bool) -> bool
     ensures { result ≡ shown latch latched level }
 {
-    if latch {
-        return latched;
-    }
-    level
-}
-
-// An enabled criterion shows its level or its latch.
-#[tactic(auto, unfolding(crate::specs::Pin::threshold_output))]
-fn threshold_output(t: Threshold, enabled: bool, latch: bool) -> bool
-    ensures { result ≡ threshold_output t enabled latch }
-{
-    if !enabled {
-        return false;
-    }
-    shown(latch, t.latched, t.level)
+    if latch { latched } else { level }
 }
 
 // Alert or any_motion is set.
@@ -44,22 +20,25 @@ fn threshold_output(t: Threshold, enabled: bool, latch: bool) -> bool
 fn enables_motion(criteria: u8) -> bool
     ensures { result ≡ enables_motion criteria }
 {
-    if has(criteria, ALERT) {
-        return true;
-    }
-    has(criteria, ANY_MOTION)
+    has(criteria, ALERT) || has(criteria, ANY_MOTION)
 }
 
-// An enabled criterion is met.
-#[tactic(auto, unfolding(crate::specs::Pin::candidate))]
-fn candidate(t: Threshold, high: bool, enabled: bool) -> bool
-    ensures { result ≡ candidate t high enabled }
-{
-    if !enabled {
-        return false;
+impl<const HIGH: bool> Threshold<HIGH> {
+    // An enabled criterion shows its level or its latch.
+    #[tactic(auto, unfolding(crate::specs::Pin::threshold_output))]
+    fn output(self, enabled: bool, latch: bool) -> bool
+        ensures { result ≡ threshold_output self.entry enabled latch }
+    {
+        enabled && shown(latch, self.latched, self.level)
     }
-    let axes = t.axes;
-    active(high, axes)
+
+    // An enabled criterion is met.
+    #[tactic(auto, unfolding(crate::specs::Pin::candidate))]
+    fn candidate(self, enabled: bool) -> bool
+        ensures { result ≡ candidate self.entry HIGH enabled }
+    {
+        enabled && self.active()
+    }
 }
 
 impl Interrupts {
@@ -67,13 +46,11 @@ impl Interrupts {
     pub fn status(self) -> u8
         ensures { result ≡ status self }
     {
-        let low = self.low_g;
-        let high = self.high_g;
-        weigh(self.alert, 16)
-            + weigh(low.latched, 8)
-            + weigh(high.latched, 4)
-            + weigh(low.level, 2)
-            + weigh(high.level, 1)
+        u8::from(self.alert) * 16
+            + u8::from(self.low_g.latched) * 8
+            + u8::from(self.high_g.latched) * 4
+            + u8::from(self.low_g.level) * 2
+            + u8::from(self.high_g.level)
     }
 
     // Motion shows.
@@ -81,21 +58,16 @@ impl Interrupts {
     fn motion_output(self, registers: [u8; 62]) -> bool
         ensures { result ≡ motion_output self registers }
     {
+        let criteria = registers[CRITERIA];
         let operation = registers[OPERATION];
-        if !has(operation, ENABLE_ADV_INT) {
-            return false;
-        }
-        if !has(registers[CRITERIA], ANY_MOTION) {
-            return false;
-        }
-        if has(registers[CRITERIA], ALERT) {
-            return false;
-        }
-        shown(
-            has(operation, LATCH_INT),
-            self.motion_latched,
-            self.motion_level,
-        )
+        has(operation, ENABLE_ADV_INT)
+            && has(criteria, ANY_MOTION)
+            && !has(criteria, ALERT)
+            && shown(
+                has(operation, LATCH_INT),
+                self.motion_latched,
+                self.motion_level,
+            )
     }
 
     // The interrupt.
@@ -105,15 +77,9 @@ impl Interrupts {
     {
         let criteria = registers[CRITERIA];
         let latch = has(registers[OPERATION], LATCH_INT);
-        let low = self.low_g;
-        if threshold_output(low, has(criteria, ENABLE_LG), latch) {
-            return true;
-        }
-        let high = self.high_g;
-        if threshold_output(high, has(criteria, ENABLE_HG), latch) {
-            return true;
-        }
-        self.motion_output(registers)
+        self.low_g.output(has(criteria, ENABLE_LG), latch)
+            || self.high_g.output(has(criteria, ENABLE_HG), latch)
+            || self.motion_output(registers)
     }
 
     // Motion is being verified.
@@ -121,16 +87,9 @@ impl Interrupts {
     fn verifying_motion(self, registers: [u8; 62]) -> bool
         ensures { result ≡ verifying_motion self registers }
     {
-        if !has(registers[OPERATION], ENABLE_ADV_INT) {
-            return false;
-        }
-        if !enables_motion(registers[CRITERIA]) {
-            return false;
-        }
-        if self.observations < 4 {
-            return true;
-        }
-        self.motion_active
+        has(registers[OPERATION], ENABLE_ADV_INT)
+            && enables_motion(registers[CRITERIA])
+            && (self.observations < 4 || self.motion_active)
     }
 
     // A candidate is being verified, which keeps the sensor awake.
@@ -139,17 +98,9 @@ impl Interrupts {
         ensures { result ≡ verifying self registers }
     {
         let criteria = registers[CRITERIA];
-        let low = self.low_g;
-        if candidate(low, false, has(criteria, ENABLE_LG)) {
-            return true;
-        }
-        let high = self.high_g;
-        if candidate(high, true, has(criteria, ENABLE_HG)) {
-            return true;
-        }
-        if self.verifying_motion(registers) {
-            return true;
-        }
-        self.alert
+        self.low_g.candidate(has(criteria, ENABLE_LG))
+            || self.high_g.candidate(has(criteria, ENABLE_HG))
+            || self.verifying_motion(registers)
+            || self.alert
     }
 }

@@ -1,55 +1,18 @@
--- The lowest ten bits of a code, how far each step of the scaling reaches, and the code of a large acceleration.
-use mathlib.Core.Path.{◌≡◌, refl, ap}
+-- How far each step of the scaling of a code reaches, and the code of a large acceleration.
+use mathlib.Core.Path.{◌≡◌, refl, sym, ◌∙◌, ap}
 use mathlib.Core.Bool.{Bool, true, false, cond}
-use Prim.Native.Nat.{ℕ, zero, suc, ◌+◌, ◌-◌, ◌*◌, ◌/◌, ◌%◌, ◌^◌, ◌≤◌, ◌<◌}
+use Prim.Native.Nat.{ℕ, zero, suc, ◌+◌, ◌-◌, ◌*◌, ◌/◌, ◌^◌, ◌≤◌, ◌<◌}
 use native.Mathlib.Nat.{le-div_iff_mul-le, mul-le-mul_left}
 use native.Mathlib.Omega.{arith}
-use lib.Dec.{T, ltb, eqb}
-use lib.Bits.{bit_and, and_mask}
-use lib.IntN.{ℤ, pos, negsuc, neg_ℤ, nat_abs, ◌+ℤ◌, ◌-ℤ◌, ◌*ℤ◌}
-use lib.Signed.{lt_z, non_neg}
-use mir.Syntax.{w8, w32}
-use mir.Val.{Fits}
-use borrow.Author.Tests.{lt-ltb, le-ltb, ltb-true, ltb-false}
+use lib.Dec.{ltb, eqb}
+use Rattle.std.proofs.Common.{lit≤}
+use lib.IntN.{ℤ, pos, negsuc, neg_ℤ, ◌+ℤ◌, ◌-ℤ◌, ◌*ℤ◌}
+use borrow.Author.Tests.{lt-ltb, le-ltb, ltb-true}
 use Rattle.laws.specs.Signed.{Reach, reach_sub, reach_pos, reach_mul, reach_add}
-use Rattle.registers.specs.Codes.{held, towards_zero, ten_bits, range_g, scaled, code}
-
--- ---- a code raised by 2^15, which is a multiple of 1024, has the code's lowest ten bits
-raised : (z : ℤ) → Reach z (2 ^ 15) → ℕ
-raised (pos n) r = n + 32768
-raised (negsuc n) r = 32768 - suc n
-
-raised_is : (z : ℤ) (r : Reach z (2 ^ 15)) → z +ℤ pos 32768 ≡ pos (raised z r)
-unfolding raised
-raised_is (pos n) r = refl
-raised_is (negsuc n) r =
-    let e : ltb 32768 (suc n) ≡ false = le-ltb 32768 (suc n) (omega (arith, r.reach)) in
-    rw e
-
-raised_lt : (z : ℤ) (r : Reach z (2 ^ 15)) → raised z r < 2 ^ 16
-unfolding raised
-raised_lt (pos n) r = omega (arith, r.reach)
-raised_lt (negsuc n) r = omega arith
-
-pub raised_sign : (z : ℤ) → Reach z (2 ^ 15) → T (non_neg (z +ℤ pos 32768)) × Fits w32 (nat_abs (z +ℤ pos 32768))
-raised_sign z r =
-    let l : raised z r < 2 ^ 16 = raised_lt z r in
-    rw (raised_is z r) (tt, omega arith)
-
-raw : (z : ℤ) (r : Reach z (2 ^ 15)) → raised z r % 1024 ≡ ten_bits z
-unfolding raised
-raw (pos n) r = omega arith
-raw (negsuc n) r = omega (arith, r.reach)
-
-pub raised_mask : (z : ℤ) → Reach z (2 ^ 15) → bit_and (nat_abs (z +ℤ pos 32768)) 1023 ≡ ten_bits z
-raised_mask z r = rw (raised_is z r, and_mask (raised z r) 10) (raw z r)
-
-ten_lt : (z : ℤ) → ten_bits z < 1024
-ten_lt (pos n) = omega arith
-ten_lt (negsuc n) = omega arith
-
-pub high_fits : (z : ℤ) → ten_bits z / 4 % 256 ≡ ten_bits z / 4
-high_fits z = omega (arith, ten_lt z)
+use Rattle.std.specs.Int.{int_max, int_min}
+use Rattle.std.proofs.lemmas.Int.{ints}
+use lib.Signed.{◌≤ℤ◌}
+use Rattle.registers.specs.Codes.{held, towards_zero, range_g, scaled, code}
 
 -- ---- the range
 pub range_within : (k : ℕ) → (0 < range_g k) × (range_g k ≤ 8)
@@ -61,14 +24,14 @@ range_within k = go (eqb k 0) (eqb k 1)
     go false true = omega arith
     go false false = omega arith
 
--- ---- how far each step of the scaling reaches, between the limits
-pub within : (z : ℤ) → lt_z z (negsuc 999999999999) ≡ false → lt_z (pos 1000000000000) z ≡ false → Reach z (1000000000000 + 1)
-within (pos n) p q = record { reach = omega (arith, ltb-false 1000000000000 n q) }
-within (negsuc n) p q = record { reach = omega (arith, ltb-false 999999999999 n p) }
+pub within_code : (z : ℤ) → negsuc 511 ≤ℤ z → z ≤ℤ pos 511 → Reach z 512
+within_code (pos n) p q = record { reach = omega (arith, ints) }
+within_code (negsuc n) p q = record { reach = omega (arith, ints) }
 
-pub within_byte : (z : ℤ) → lt_z z (pos 0) ≡ false → lt_z (pos 255) z ≡ false → T (non_neg z) × Fits w8 (nat_abs z)
-within_byte (pos n) p q = (tt, record { fits = omega (arith, ltb-false 255 n q) })
-within_byte (negsuc n) p q = let z : ◌≡◌ {A = ℕ} 0 1 = cc in absurd (omega arith)
+-- ---- how far each step of the scaling reaches, between the limits
+pub within : (z : ℤ) → negsuc 999999999999 ≤ℤ z → z ≤ℤ pos 1000000000000 → Reach z (1000000000000 + 1)
+within (pos n) p q = record { reach = omega (arith, ints) }
+within (negsuc n) p q = record { reach = omega (arith, ints) }
 
 module _ (o : ℕ) (ro : o < 2 ^ 16) where
   pub r1 : Reach (pos o -ℤ pos 512) (65536 + (513 + 1))
@@ -137,16 +100,33 @@ below_code : (z : ℤ) (r : ℕ) → 0 < r → r ≤ 8 → Below z (513 * 800000
 below_code z r p q b = rw b.is (negated (suc b.size / (r * 1000000)) (large (suc b.size) 513 r p q (omega (arith, b.far))))
 
 module _ (o : ℕ) (ro : o < 2 ^ 16) (k : ℕ) where
-  pub code_above : (a : ℤ) → lt_z (pos 1000000000000) a ≡ true → code a o k ≡ pos 511
+  code_above : (n : ℕ) → 1000000000000 ≤ n → code (pos n) o k ≡ pos 511
   unfolding code
-  code_above (pos n) e =
+  code_above n p =
       above_code (scaled (pos n) o) (range_g k) (range_within k).0 (range_within k).1
-      (above_mul (above_add n 8000000 ((pos o -ℤ pos 512) *ℤ pos 31250) ((65536 + (513 + 1)) * 31250) (r2 o ro) (omega (arith, ltb-true 1000000000000 n e))))
-  code_above (negsuc n) e = let q : ◌≡◌ {A = ℕ} 0 1 = cc in absurd (omega arith)
+      (above_mul (above_add n 8000000 ((pos o -ℤ pos 512) *ℤ pos 31250) ((65536 + (513 + 1)) * 31250) (r2 o ro) (omega arith)))
 
-  pub code_below : (a : ℤ) → lt_z a (negsuc 999999999999) ≡ true → code a o k ≡ negsuc 511
+  code_below : (n : ℕ) → 999999999999 ≤ n → code (negsuc n) o k ≡ negsuc 511
   unfolding code
-  code_below (pos n) e = let q : ◌≡◌ {A = ℕ} 0 1 = cc in absurd (omega arith)
-  code_below (negsuc n) e =
+  code_below n p =
       below_code (scaled (negsuc n) o) (range_g k) (range_within k).0 (range_within k).1
-      (below_far (below_mul (below_add n 9000000 ((pos o -ℤ pos 512) *ℤ pos 31250) ((65536 + (513 + 1)) * 31250) (r2 o ro) (omega (arith, ltb-true 999999999999 n e)))))
+      (below_far (below_mul (below_add n 9000000 ((pos o -ℤ pos 512) *ℤ pos 31250) ((65536 + (513 + 1)) * 31250) (r2 o ro) (omega arith))))
+
+  -- an acceleration clamped to a million g has the code that it had
+  pub code_near : (a : ℤ) → code (held (negsuc 999999999999) (pos 1000000000000) a) o k ≡ code a o k
+  unfolding held
+  code_near (pos n) = go (ltb 1000000000000 n) refl
+    where
+      go : (b : Bool) → ltb 1000000000000 n ≡ b → code (cond b (pos 1000000000000) (pos n)) o k ≡ code (pos n) o k
+      go true e = code_above 1000000000000 (lit≤ tt) ∙ sym (code_above n (omega (arith, ltb-true 1000000000000 n e)))
+      go false e = refl
+  code_near (negsuc n) = go (ltb 999999999999 n) refl
+    where
+      go : (b : Bool) → ltb 999999999999 n ≡ b → code (cond b (negsuc 999999999999) (negsuc n)) o k ≡ code (negsuc n) o k
+      go true e = code_below 999999999999 (lit≤ tt) ∙ sym (code_below n (omega (arith, ltb-true 999999999999 n e)))
+      go false e = refl
+
+-- ---- the library's clamp is `held`
+pub clamp_held : (lo hi z : ℤ) → lo ≤ℤ hi → int_max lo (int_min z hi) ≡ held lo hi z
+unfolding held
+clamp_held lo hi z p = grind (arith, ints)

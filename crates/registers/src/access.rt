@@ -5,7 +5,7 @@ ghost use Rattle.registers.specs.Access.{unwritable, working, stored, image_bloc
 use crate::fields::{EE_W, has};
 
 // What a read or a write meets: the byte of 0a, whether the sensor is quiet, an image copy runs, the sensor sleeps.
-#[derive(Clone, Copy)]
+#[derive(Clone, Copy, Debug, PartialEq, Eq)]
 pub struct Gate {
     pub control: u8,
     pub quiet: bool,
@@ -18,10 +18,7 @@ pub struct Gate {
 fn unwritable(address: u8) -> bool
     ensures { result ≡ unwritable address }
 {
-    if address <= 0x09 {
-        return true;
-    }
-    0x3e <= address
+    address <= 0x09 || 0x3e <= address
 }
 
 // The working image, which a copy of the stored image overwrites.
@@ -29,10 +26,7 @@ fn unwritable(address: u8) -> bool
 pub fn working(address: u8) -> bool
     ensures { result ≡ working address }
 {
-    if address < 0x0b {
-        return false;
-    }
-    address <= 0x1d
+    (0x0b..=0x1d).contains(&address)
 }
 
 // The stored image.
@@ -40,10 +34,7 @@ pub fn working(address: u8) -> bool
 pub fn stored(address: u8) -> bool
     ensures { result ≡ stored address }
 {
-    if address < 0x2b {
-        return false;
-    }
-    address <= 0x3d
+    (0x2b..=0x3d).contains(&address)
 }
 
 // An image copy keeps the address from reads and writes.
@@ -51,13 +42,7 @@ pub fn stored(address: u8) -> bool
 fn image_blocks(copying: bool, address: u8) -> bool
     ensures { result ≡ image_blocks copying address }
 {
-    if !copying {
-        return false;
-    }
-    if working(address) {
-        return true;
-    }
-    0x2b <= address
+    copying && (working(address) || 0x2b <= address)
 }
 
 // A sleeping sensor does not take the write.
@@ -65,13 +50,7 @@ fn image_blocks(copying: bool, address: u8) -> bool
 fn sleep_blocks(asleep: bool, address: u8, value: u8) -> bool
     ensures { result ≡ sleep_blocks asleep address value }
 {
-    if !asleep {
-        return false;
-    }
-    if address != 0x0a {
-        return true;
-    }
-    if value % 4 == 1 { true } else { false }
+    asleep && !(address == 0x0a && value % 4 != 1)
 }
 
 // The address needs ee_w, which is clear.
@@ -79,10 +58,7 @@ fn sleep_blocks(asleep: bool, address: u8, value: u8) -> bool
 fn locked(address: u8, control: u8) -> bool
     ensures { result ≡ locked address control }
 {
-    if address < 0x16 {
-        return false;
-    }
-    !has(control, EE_W)
+    0x16 <= address && !has(control, EE_W)
 }
 
 // A write is ignored.
@@ -90,19 +66,11 @@ fn locked(address: u8, control: u8) -> bool
 pub fn ignores(address: u8, value: u8, gate: Gate) -> bool
     ensures { result ≡ ignores address value gate }
 {
-    if unwritable(address) {
-        return true;
-    }
-    if gate.quiet {
-        return true;
-    }
-    if image_blocks(gate.copying, address) {
-        return true;
-    }
-    if sleep_blocks(gate.asleep, address, value) {
-        return true;
-    }
-    locked(address, gate.control)
+    unwritable(address)
+        || gate.quiet
+        || image_blocks(gate.copying, address)
+        || sleep_blocks(gate.asleep, address, value)
+        || locked(address, gate.control)
 }
 
 // A write begins a stored write.
@@ -110,13 +78,7 @@ pub fn ignores(address: u8, value: u8, gate: Gate) -> bool
 pub fn begins(address: u8, value: u8, gate: Gate, running: bool) -> bool
     ensures { result ≡ begins address value gate running }
 {
-    if !stored(address) {
-        return false;
-    }
-    if running {
-        return false;
-    }
-    !ignores(address, value, gate)
+    stored(address) && !running && !ignores(address, value, gate)
 }
 
 // A read is withheld.
@@ -124,17 +86,9 @@ pub fn begins(address: u8, value: u8, gate: Gate, running: bool) -> bool
 pub fn withheld(address: u8, gate: Gate) -> bool
     ensures { result ≡ withheld address gate }
 {
-    if 0x23 <= address {
-        return true;
-    }
-    if gate.asleep {
-        return true;
-    }
-    if gate.quiet {
-        return true;
-    }
-    if image_blocks(gate.copying, address) {
-        return true;
-    }
-    locked(address, gate.control)
+    0x23 <= address
+        || gate.asleep
+        || gate.quiet
+        || image_blocks(gate.copying, address)
+        || locked(address, gate.control)
 }

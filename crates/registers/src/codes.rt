@@ -1,35 +1,36 @@
 // Codes, offsets and temperatures, and the register bits that hold them.
-ghost use Rattle.std.specs.Prelude.{◌≡◌, ◌*◌, pos, negsuc, nat_abs};
-ghost use Rattle.registers.specs.Codes.{held, offset, ten_bits, code_low, code_high, range_g, code, temperature};
+ghost use Rattle.std.specs.Prelude.{◌≡◌, ◌*◌, pos};
+ghost use Rattle.registers.specs.Codes.{offset, ten_bits, code_low, code_high, range_g, code, temperature};
+
+// Millionths of g from which on a code is a limit, whatever the offset and the range: a million g.
+const FAR: i64 = 1_000_000_000_000;
 
 // The ten-bit offset, joined from two registers.
 pub fn offset(lsb: u8, msb: u8) -> u16
     ensures { result ≡ offset lsb msb }
 {
-    ((msb as u16) << 2) | ((lsb >> 6) as u16)
+    (u16::from(msb) << 2) | u16::from(lsb >> 6)
 }
 
-// The lowest ten bits of a code: 2^15 more has the same.
+// The lowest ten bits of a code.
 fn ten_bits(code: i16) -> u16
     ensures { result ≡ ten_bits code }
 {
-    (((code as i32 + 32768) as u32) & 0x3ff) as u16
+    code.cast_unsigned() & 0x3ff
 }
 
 // The register of a code's bits 1..0, with new_data set.
 pub fn code_low(code: i16) -> u8
     ensures { result ≡ code_low code }
 {
-    let bits = ten_bits(code);
-    (((bits & 3) as u8) << 6) | 1
+    ((ten_bits(code) & 3) as u8) << 6 | 1
 }
 
 // The register of a code's bits 9..2.
 pub fn code_high(code: i16) -> u8
     ensures { result ≡ code_high code }
 {
-    let bits = ten_bits(code);
-    ((bits >> 2) & 0xff) as u8
+    (ten_bits(code) >> 2) as u8
 }
 
 // The range in millionths of g that the two bits of `range` choose.
@@ -44,47 +45,14 @@ fn divisor(range: u8) -> i64
     }
 }
 
-// A quotient clamped to the ten bits of a code.
-#[tactic(auto, unfolding(crate::specs::Codes::held))]
-fn hold_code(z: i64) -> i16
-    ensures { result ≡ held (negsuc 511) (pos 511) z }
-{
-    if z < -512 {
-        return -512;
-    }
-    if 511 < z {
-        return 511;
-    }
-    z as i16
-}
-
-// The code of an acceleration in millionths of g. From a million g on it is a limit, and the product could overflow.
+// The code of an acceleration in millionths of g. Without its first line the product could overflow.
 #[tactic(auto, unfolding(crate::specs::Codes::code))]
 pub fn code(acceleration: i64, offset: u16, range: u8) -> i16
     ensures { result ≡ code acceleration offset range }
 {
-    if acceleration < -1000000000000 {
-        return -512;
-    }
-    if 1000000000000 < acceleration {
-        return 511;
-    }
-    let scaled = (acceleration + (offset as i64 - 512) * 31250) * 512;
-    hold_code(scaled / divisor(range))
-}
-
-// A quotient clamped to a byte.
-#[tactic(auto, unfolding(crate::specs::Codes::held))]
-fn hold_byte(z: i64) -> u8
-    ensures { result ≡ nat_abs (held (pos 0) (pos 255) z) }
-{
-    if z < 0 {
-        return 0;
-    }
-    if 255 < z {
-        return 255;
-    }
-    z as u8
+    let near = acceleration.clamp(-FAR, FAR);
+    let scaled = (near + (i64::from(offset) - 512) * 31250) * 512;
+    (scaled / divisor(range)).clamp(-512, 511) as i16
 }
 
 // The temperature register of thousandths of a degree.
@@ -92,5 +60,5 @@ fn hold_byte(z: i64) -> u8
 pub fn temperature(millicelsius: i32) -> u8
     ensures { result ≡ temperature millicelsius }
 {
-    hold_byte((millicelsius as i64 + 30000) / 500)
+    ((i64::from(millicelsius) + 30000) / 500).clamp(0, 255) as u8
 }

@@ -1,5 +1,6 @@
-// Registers by address, and the fields of a register's byte: those of one bit by number, through `has`.
-ghost use Rattle.std.specs.Prelude.{◌≡◌};
+// Registers by address, and the fields of a register's byte: those of one bit by number, through `has`. Constants and no enums: an
+// address is an index and a bit's number an amount to shift by, so each use of an enum would begin by casting it back.
+ghost use Rattle.std.specs.Prelude.{◌≡◌, ◌/◌, ◌%◌, ◌^◌, ◌<◌};
 ghost use Rattle.laws.specs.Bytes.{bit};
 ghost use Rattle.registers.specs.Map.{counter_HG, counter_LG, any_motion_dur, HG_hyst, LG_hyst, range, bandwidth, wake_up_pause};
 
@@ -83,56 +84,62 @@ pub const WAKE_UP: u8 = 0;
 pub fn has(byte: u8, k: u8) -> bool
     ensures { result ≡ bit byte k }
 {
-    if 7 < k {
-        return false;
-    }
-    (byte >> k) & 1 == 1
+    k <= 7 && (byte >> k) & 1 == 1
+}
+
+// A field of WIDTH bits, its lowest at SHIFT.
+fn field<const SHIFT: u8, const WIDTH: u8>(byte: u8) -> u8
+    requires shift { SHIFT < 8 }
+    requires width { WIDTH < 8 }
+    ensures { result ≡ byte / 2 ^ SHIFT % 2 ^ WIDTH }
+{
+    (byte >> SHIFT) & ((1 << WIDTH) - 1)
 }
 
 pub fn counter_hg(criteria: u8) -> u8
     ensures { result ≡ counter_HG criteria }
 {
-    (criteria >> 4) & 3
+    field::<4, 2>(criteria)
 }
 
 pub fn counter_lg(criteria: u8) -> u8
     ensures { result ≡ counter_LG criteria }
 {
-    (criteria >> 2) & 3
+    field::<2, 2>(criteria)
 }
 
 pub fn any_motion_dur(hysteresis: u8) -> u8
     ensures { result ≡ any_motion_dur hysteresis }
 {
-    (hysteresis >> 6) & 3
+    field::<6, 2>(hysteresis)
 }
 
 pub fn hg_hyst(hysteresis: u8) -> u8
     ensures { result ≡ HG_hyst hysteresis }
 {
-    (hysteresis >> 3) & 7
+    field::<3, 3>(hysteresis)
 }
 
 pub fn lg_hyst(hysteresis: u8) -> u8
     ensures { result ≡ LG_hyst hysteresis }
 {
-    hysteresis & 7
+    field::<0, 3>(hysteresis)
 }
 
 pub fn range(measurement: u8) -> u8
     ensures { result ≡ range measurement }
 {
-    (measurement >> 3) & 3
+    field::<3, 2>(measurement)
 }
 
 pub fn bandwidth(measurement: u8) -> u8
     ensures { result ≡ bandwidth measurement }
 {
-    measurement & 7
+    field::<0, 3>(measurement)
 }
 
 pub fn wake_up_pause(operation: u8) -> u8
     ensures { result ≡ wake_up_pause operation }
 {
-    (operation >> 1) & 3
+    field::<1, 2>(operation)
 }
