@@ -1,11 +1,13 @@
 -- What the bytes of a command mean (01, "Bench program").
-use Rattle.std.specs.Prelude.{Bool, true, false, List, [], ◌∷◌, ℕ, ◌+◌, ◌-◌, ◌*◌, ◌/◌, ◌%◌, ltb, eqb, ℤ, pos, negsuc, length, take, drop, get_or, if◌then◌else◌}
+use Rattle.std.specs.Prelude.{Bool, true, false, List, [], ◌∷◌, ℕ, ◌+◌, ◌-◌, ◌*◌, ◌/◌, ◌%◌, ltb, eqb, ℤ, pos, negsuc, length, take, drop, get_or, ◌≡◌, ◌≤◌, ◌<◌, Option, MatchOption, unwrap_or, Result, Ok, Err, if◌then◌else◌}
 use Rattle.time.specs.declared.Time.{Time}
 use Rattle.i2c.specs.declared.types.Levels.{Levels}
 use Rattle.calls.specs.declared.types.Timed.{Timed}
 use Rattle.calls.specs.declared.types.Call.{Call}
 use Rattle.calls.specs.declared.types.Starting.{Starting}
 use Rattle.commands.specs.declared.Command.{Command}
+use Rattle.commands.specs.declared.Opcode.{Opcode}
+use Rattle.commands.specs.declared.UnknownByte.{UnknownByte}
 
 -- ---- operands, big-endian; `at` counts from the command's byte
 
@@ -38,6 +40,14 @@ moment_at at l = record { 0 = number_at at 4 l; 1 = number_at (at + 4) 8 l }
 
 abbrev pub byte_at : (at : ℕ) (l : List ℕ) → ℕ
 byte_at at l = get_or l at 0
+
+-- v, where l has n bytes
+abbrev pub Reads : {A : Type 0} → (result : Option A) (l : List ℕ) (n : ℕ) (v : A) → Type 0
+Reads result l n v = MatchOption result (length l < n) (λ x. (n ≤ length l) × (x ≡ v))
+
+-- 0 for off, 1 for on
+abbrev pub flag_number : Bool → ℕ
+flag_number on = if on then 1 else 0
 
 -- the bit of this weight
 unfoldable pub bit : (b weight : ℕ) → Bool
@@ -113,63 +123,77 @@ stored_image l = within 13 l (Command.Host (Call.StoredImage (moment_at 1 l) 19)
 unfoldable pub view : List ℕ → Command
 view l = within 2 l (Command.Host (Call.View (byte_at 1 l)))
 
--- ---- which command the byte c begins; an unknown byte is a bad command (refusal 7)
+-- ---- which command a byte begins
 
--- from 0c on
-unfoldable pub decode_from_0c : ℕ → List ℕ → Command
-decode_from_0c c l = if eqb c 0x0c then start Starting.Stored l else Command.Bad
+-- an unknown byte begins none
+unfoldable pub opcode : ℕ → Result Opcode UnknownByte
+opcode c =
+    if eqb c 0x01 then Ok Opcode.Start
+    else if eqb c 0x02 then Ok Opcode.Accelerations
+    else if eqb c 0x03 then Ok Opcode.Temperature
+    else if eqb c 0x04 then Ok Opcode.Supply
+    else if eqb c 0x05 then Ok Opcode.Due
+    else if eqb c 0x06 then Ok Opcode.Select
+    else if eqb c 0x07 then Ok Opcode.Rising
+    else if eqb c 0x08 then Ok Opcode.Falling
+    else if eqb c 0x09 then Ok Opcode.Pins
+    else if eqb c 0x0a then Ok Opcode.StoredImage
+    else if eqb c 0x0b then Ok Opcode.View
+    else if eqb c 0x0c then Ok Opcode.StartStored
+    else Err (record { 0 = c })
 
--- 06 to 0b; another byte goes to the definition above
-unfoldable pub decode_06_to_0b : ℕ → List ℕ → Command
-decode_06_to_0b c l =
-    if eqb c 0x06 then select l
-    else if eqb c 0x07 then rising l
-    else if eqb c 0x08 then falling l
-    else if eqb c 0x09 then pins l
-    else if eqb c 0x0a then stored_image l
-    else if eqb c 0x0b then view l
-    else decode_from_0c c l
+-- the command that the opcode names
+unfoldable pub named : Opcode → List ℕ → Command
+named Opcode.Start l = start Starting.Checked l
+named Opcode.Accelerations l = accelerations l
+named Opcode.Temperature l = temperature l
+named Opcode.Supply l = supply l
+named Opcode.Due l = due l
+named Opcode.Select l = select l
+named Opcode.Rising l = rising l
+named Opcode.Falling l = falling l
+named Opcode.Pins l = pins l
+named Opcode.StoredImage l = stored_image l
+named Opcode.View l = view l
+named Opcode.StartStored l = start Starting.Stored l
 
--- 01 to 05; another byte goes to the definition above
-unfoldable pub decode_01_to_05 : ℕ → List ℕ → Command
-decode_01_to_05 c l =
-    if eqb c 0x01 then start Starting.Checked l
-    else if eqb c 0x02 then accelerations l
-    else if eqb c 0x03 then temperature l
-    else if eqb c 0x04 then supply l
-    else if eqb c 0x05 then due l
-    else decode_06_to_0b c l
+-- an unknown byte is a bad command (refusal 7)
+abbrev pub named_by : Result Opcode UnknownByte → List ℕ → Command
+named_by (Ok o) l = named o l
+named_by (Err e) l = Command.Bad
 
 -- the command at the head of the input; none where nothing is left
 unfoldable pub decoded : List ℕ → Command
-decoded l = if ltb 0 (length l) then decode_01_to_05 (byte_at 0 l) l else Command.Bad
+decoded l = if ltb 0 (length l) then named_by (opcode (byte_at 0 l)) l else Command.Bad
 
--- ---- how many bytes a command has that begins with the byte c; an unknown byte is whole at once
+-- what is no command is a bad one
+abbrev pub or_bad : Option Command → Command
+or_bad o = unwrap_or o Command.Bad
 
--- from 0c on
-unfoldable pub wants_from_0c : ℕ → ℕ
-wants_from_0c c = if eqb c 0x0c then 32 else 1
+-- ---- how many bytes a command has that begins with the byte c
 
--- 06 to 0b; another byte goes to the definition above
-unfoldable pub wants_06_to_0b : ℕ → ℕ
-wants_06_to_0b c =
-    if eqb c 0x06 then 2
-    else if eqb c 0x07 then 14
-    else if eqb c 0x08 then 13
-    else if eqb c 0x09 then 14
-    else if eqb c 0x0a then 13
-    else if eqb c 0x0b then 2
-    else wants_from_0c c
+-- its opcode and its operands
+unfoldable pub opcode_size : Opcode → ℕ
+opcode_size Opcode.Start = 32
+opcode_size Opcode.Accelerations = 25
+opcode_size Opcode.Temperature = 5
+opcode_size Opcode.Supply = 15
+opcode_size Opcode.Due = 13
+opcode_size Opcode.Select = 2
+opcode_size Opcode.Rising = 14
+opcode_size Opcode.Falling = 13
+opcode_size Opcode.Pins = 14
+opcode_size Opcode.StoredImage = 13
+opcode_size Opcode.View = 2
+opcode_size Opcode.StartStored = 32
 
--- 01 to 05; another byte goes to the definition above
+-- an unknown byte is whole at once
+abbrev pub size_by : Result Opcode UnknownByte → ℕ
+size_by (Ok o) = opcode_size o
+size_by (Err e) = 1
+
 unfoldable pub wants : ℕ → ℕ
-wants c =
-    if eqb c 0x01 then 32
-    else if eqb c 0x02 then 25
-    else if eqb c 0x03 then 5
-    else if eqb c 0x04 then 15
-    else if eqb c 0x05 then 13
-    else wants_06_to_0b c
+wants c = size_by (opcode c)
 
 -- ---- how many bytes a command takes
 

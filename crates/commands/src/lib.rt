@@ -1,7 +1,7 @@
 // The bench program's commands: a byte and its operands, big-endian.
 #![tactic(auto)]
 
-ghost use Rattle.std.specs.Prelude.{◌≡◌, ◌+◌, ◌≤◌, ◌<◌, ◌^◌, length, drop};
+ghost use Rattle.std.specs.Prelude.{◌≡◌, ◌+◌, ◌≤◌, ◌<◌, ◌⊎◌, length, drop, MatchOption};
 ghost use Rattle.commands.specs.Decode as D;
 
 use calls::types::{Call, Starting, Timed};
@@ -16,47 +16,107 @@ pub enum Command {
     Bad,
 }
 
-fn wide(x: u8) -> u64
-    ensures { (result ≡ x) × (result < 256) }
-{
-    x as u64
+// The command that a first byte names.
+#[derive(Clone, Copy, PartialEq, Eq, Debug)]
+enum Opcode {
+    Start,
+    Accelerations,
+    Temperature,
+    Supply,
+    Due,
+    Select,
+    Rising,
+    Falling,
+    Pins,
+    StoredImage,
+    View,
+    StartStored,
 }
 
-// The number of the n bytes from `at`, the first the highest.
-fn number(input: &[u8], at: usize, n: usize) -> u64
-    requires { (n ≤ 8) × (at + n ≤ length input.now) }
-    ensures { (result ≡ D.number_at at n input.now) × (result < 256 ^ n) }
-{
-    let mut x: u64 = 0;
-    let mut i: usize = 0;
-    while i < n {
-        x = x * 256 + wide(input[at + i]);
-        i += 1;
+// A byte that begins no command.
+#[derive(Clone, Copy, PartialEq, Eq, Debug)]
+struct UnknownByte(u8);
+
+impl TryFrom<u8> for Opcode {
+    ghost use Rattle.std.specs.Prelude.{◌≡◌};
+    ghost use Rattle.commands.specs.Decode.{opcode};
+
+    type Error = UnknownByte;
+
+    ghost try_from_gives = { λ byte r. r ≡ opcode byte };
+
+    #[tactic(auto, unfolding(crate::specs::Decode::opcode))]
+    fn try_from(byte: u8) -> Result<Opcode, UnknownByte> {
+        match byte {
+            0x01 => Ok(Opcode::Start),
+            0x02 => Ok(Opcode::Accelerations),
+            0x03 => Ok(Opcode::Temperature),
+            0x04 => Ok(Opcode::Supply),
+            0x05 => Ok(Opcode::Due),
+            0x06 => Ok(Opcode::Select),
+            0x07 => Ok(Opcode::Rising),
+            0x08 => Ok(Opcode::Falling),
+            0x09 => Ok(Opcode::Pins),
+            0x0a => Ok(Opcode::StoredImage),
+            0x0b => Ok(Opcode::View),
+            0x0c => Ok(Opcode::StartStored),
+            _ => Err(UnknownByte(byte)),
+        }
     }
-    x
 }
 
-// Two's complement in 32 bits.
-#[tactic(auto, unfolding(crate::specs::Decode::signed))]
-fn signed(x: u64) -> i32
-    requires { x < 4294967296 }
-    ensures { result ≡ D.signed x }
-{
-    if x < 2147483648 {
-        return x as i32;
+impl Opcode {
+    // How many bytes the command has.
+    #[tactic(auto, unfolding(crate::specs::Decode::opcode_size))]
+    fn size(self) -> usize
+        ensures { result ≡ D.opcode_size self }
+    {
+        match self {
+            Opcode::Start | Opcode::StartStored => 32,
+            Opcode::Accelerations => 25,
+            Opcode::Temperature => 5,
+            Opcode::Supply => 15,
+            Opcode::Due | Opcode::Falling | Opcode::StoredImage => 13,
+            Opcode::Select | Opcode::View => 2,
+            Opcode::Rising | Opcode::Pins => 14,
+        }
     }
-    -1 - ((4294967295 - x) as i32)
+}
+
+// The N bytes from `at`.
+fn part<const N: usize>(command: &[u8], at: usize) -> Option<[u8; N]>
+    ensures { D.Reads result command.now (at + N) (D.part at N command.now) }
+{
+    command.get(at..)?.first_chunk().copied()
+}
+
+// A signed number of 4 bytes.
+#[tactic(auto, using(crate::proofs::Bytes::signed_4))]
+fn signed(command: &[u8], at: usize) -> Option<i32>
+    ensures { D.Reads result command.now (at + 4) (D.signed_at at command.now) }
+{
+    part(command, at).map(i32::from_be_bytes)
 }
 
 // T: 4 bytes of seconds and 8 of fraction.
-#[tactic(auto, unfolding(crate::specs::Decode::moment_at))]
-fn moment(input: &[u8], at: usize) -> Time
-    requires { at + 12 ≤ length input.now }
-    ensures { result ≡ D.moment_at at input.now }
+#[tactic(auto, unfolding(crate::specs::Decode::moment_at), using(crate::proofs::Bytes::number_4, crate::proofs::Bytes::number_8))]
+fn moment(command: &[u8], at: usize) -> Option<Time>
+    ensures { D.Reads result command.now (at + 12) (D.moment_at at command.now) }
 {
-    let seconds = number(input, at, 4);
-    let fraction = number(input, at + 4, 8);
-    Time(seconds, fraction)
+    let seconds = u32::from_be_bytes(part(command, at)?);
+    let fraction = u64::from_be_bytes(part(command, at + 4)?);
+    Some(Time(seconds.into(), fraction))
+}
+
+// 0 or 1; another value is not listed.
+fn flag(command: &[u8], at: usize) -> Option<bool>
+    ensures { MatchOption result ((length command.now ≤ at) ⊎ (1 < D.byte_at at command.now)) (λ on. (at < length command.now) × (D.byte_at at command.now ≡ D.flag_number on)) }
+{
+    match command.get(at)? {
+        0 => Some(false),
+        1 => Some(true),
+        _ => None,
+    }
 }
 
 #[tactic(auto, unfolding(crate::specs::Decode::bit))]
@@ -78,219 +138,74 @@ fn levels(b: u8, scl: u8, sda: u8) -> Levels
     }
 }
 
+// The image is the last 19 bytes.
 #[tactic(auto, unfolding(crate::specs::Decode::start))]
-fn start(by: Starting, input: &[u8], at: usize) -> Command
-    requires { at ≤ length input.now }
-    ensures { result ≡ D.start by (drop at input.now) }
+fn start(by: Starting, command: &[u8]) -> Option<Command>
+    ensures { D.or_bad result ≡ D.start by command.now }
 {
-    if input.len() - at < 32 {
-        return Command::Bad;
-    }
-    let t = moment(input, at + 1);
-    Command::Start(by, t)
+    command.get(13..32)?;
+    Some(Command::Start(by, moment(command, 1)?))
+}
+
+// A call at T.
+fn timed(command: &[u8], what: Timed) -> Option<Command>
+    ensures { D.Reads result command.now 13 (D.timed command.now what) }
+{
+    Some(Command::Host(Call::At(moment(command, 1)?, what)))
 }
 
 #[tactic(auto, unfolding(crate::specs::Decode::accelerations))]
-fn accelerations(input: &[u8], at: usize) -> Command
-    requires { at ≤ length input.now }
-    ensures { result ≡ D.accelerations (drop at input.now) }
+fn accelerations(command: &[u8]) -> Option<Command>
+    ensures { D.or_bad result ≡ D.accelerations command.now }
 {
-    if input.len() - at < 25 {
-        return Command::Bad;
-    }
-    let t = moment(input, at + 1);
-    let x = number(input, at + 13, 4);
-    let y = number(input, at + 17, 4);
-    let z = number(input, at + 21, 4);
-    Command::Host(Call::At(t, Timed::Accelerations(signed(x), signed(y), signed(z))))
+    let x = signed(command, 13)?;
+    let y = signed(command, 17)?;
+    let z = signed(command, 21)?;
+    timed(command, Timed::Accelerations(x, y, z))
 }
 
-#[tactic(auto, unfolding(crate::specs::Decode::temperature))]
-fn temperature(input: &[u8], at: usize) -> Command
-    requires { at ≤ length input.now }
-    ensures { result ≡ D.temperature (drop at input.now) }
-{
-    if input.len() - at < 5 {
-        return Command::Bad;
-    }
-    let x = number(input, at + 1, 4);
-    Command::Host(Call::Temperature(signed(x)))
-}
-
-#[tactic(auto, unfolding(crate::specs::Decode::supply))]
-fn supply(input: &[u8], at: usize) -> Command
-    requires { at ≤ length input.now }
-    ensures { result ≡ D.supply (drop at input.now) }
-{
-    if input.len() - at < 15 {
-        return Command::Bad;
-    }
-    let t = moment(input, at + 1);
-    let rail = number(input, at + 13, 2);
-    Command::Host(Call::At(t, Timed::Supply(rail as u16)))
-}
-
-#[tactic(auto, unfolding(crate::specs::Decode::due))]
-fn due(input: &[u8], at: usize) -> Command
-    requires { at ≤ length input.now }
-    ensures { result ≡ D.due (drop at input.now) }
-{
-    if input.len() - at < 13 {
-        return Command::Bad;
-    }
-    let t = moment(input, at + 1);
-    Command::Host(Call::At(t, Timed::Due))
-}
-
-#[tactic(auto, unfolding(crate::specs::Decode::select))]
-fn select(input: &[u8], at: usize) -> Command
-    requires { at ≤ length input.now }
-    ensures { result ≡ D.select (drop at input.now) }
-{
-    if input.len() - at < 2 {
-        return Command::Bad;
-    }
-    let b = input[at + 1];
-    if b == 0 {
-        return Command::Host(Call::Select(false));
-    }
-    if b == 1 {
-        return Command::Host(Call::Select(true));
-    }
-    Command::Bad
-}
-
-#[tactic(auto, unfolding(crate::specs::Decode::rising))]
-fn rising(input: &[u8], at: usize) -> Command
-    requires { at ≤ length input.now }
-    ensures { result ≡ D.rising (drop at input.now) }
-{
-    if input.len() - at < 14 {
-        return Command::Bad;
-    }
-    let t = moment(input, at + 1);
-    let b = input[at + 13];
-    if b == 0 {
-        return Command::Host(Call::At(t, Timed::Rising(false)));
-    }
-    if b == 1 {
-        return Command::Host(Call::At(t, Timed::Rising(true)));
-    }
-    Command::Bad
-}
-
-#[tactic(auto, unfolding(crate::specs::Decode::falling))]
-fn falling(input: &[u8], at: usize) -> Command
-    requires { at ≤ length input.now }
-    ensures { result ≡ D.falling (drop at input.now) }
-{
-    if input.len() - at < 13 {
-        return Command::Bad;
-    }
-    let t = moment(input, at + 1);
-    Command::Host(Call::At(t, Timed::Falling))
-}
-
+// A byte 0..15: bits 3 and 2 the clock and data before, 1 and 0 after.
 #[tactic(auto, unfolding(crate::specs::Decode::pins))]
-fn pins(input: &[u8], at: usize) -> Command
-    requires { at ≤ length input.now }
-    ensures { result ≡ D.pins (drop at input.now) }
+fn pins(command: &[u8]) -> Option<Command>
+    ensures { D.or_bad result ≡ D.pins command.now }
 {
-    if input.len() - at < 14 {
-        return Command::Bad;
+    match *command.get(13)? {
+        b @ 0..=15 => timed(command, Timed::Pins(levels(b, 8, 4), levels(b, 2, 1))),
+        _ => None,
     }
-    let t = moment(input, at + 1);
-    let b = input[at + 13];
-    if 15 < b {
-        return Command::Bad;
-    }
-    Command::Host(Call::At(t, Timed::Pins(levels(b, 8, 4), levels(b, 2, 1))))
 }
 
-#[tactic(auto, unfolding(crate::specs::Decode::stored_image))]
-fn stored_image(input: &[u8], at: usize) -> Command
-    requires { at ≤ length input.now }
-    ensures { result ≡ D.stored_image (drop at input.now) }
+// The command that the opcode names.
+#[tactic(auto, unfolding(crate::specs::Decode::named, crate::specs::Decode::temperature, crate::specs::Decode::supply, crate::specs::Decode::due, crate::specs::Decode::select, crate::specs::Decode::rising, crate::specs::Decode::falling, crate::specs::Decode::stored_image, crate::specs::Decode::view), using(crate::proofs::Bytes::number_2))]
+fn named(opcode: Opcode, command: &[u8]) -> Option<Command>
+    ensures { D.or_bad result ≡ D.named opcode command.now }
 {
-    if input.len() - at < 13 {
-        return Command::Bad;
+    match opcode {
+        Opcode::Start => start(Starting::Checked, command),
+        Opcode::Accelerations => accelerations(command),
+        Opcode::Temperature => Some(Command::Host(Call::Temperature(signed(command, 1)?))),
+        Opcode::Supply => timed(
+            command,
+            Timed::Supply(u16::from_be_bytes(part(command, 13)?)),
+        ),
+        Opcode::Due => timed(command, Timed::Due),
+        Opcode::Select => Some(Command::Host(Call::Select(flag(command, 1)?))),
+        Opcode::Rising => timed(command, Timed::Rising(flag(command, 13)?)),
+        Opcode::Falling => timed(command, Timed::Falling),
+        Opcode::Pins => pins(command),
+        Opcode::StoredImage => Some(Command::Host(Call::StoredImage(moment(command, 1)?, 19))),
+        Opcode::View => Some(Command::Host(Call::View(*command.get(1)?))),
+        Opcode::StartStored => start(Starting::Stored, command),
     }
-    let t = moment(input, at + 1);
-    Command::Host(Call::StoredImage(t, 19))
 }
 
-#[tactic(auto, unfolding(crate::specs::Decode::view))]
-fn view(input: &[u8], at: usize) -> Command
-    requires { at ≤ length input.now }
-    ensures { result ≡ D.view (drop at input.now) }
+// The command at the head of the bytes, if they begin with a whole one.
+#[tactic(auto, unfolding(crate::specs::Decode::decoded))]
+fn head(bytes: &[u8]) -> Option<Command>
+    ensures { D.or_bad result ≡ D.decoded bytes.now }
 {
-    if input.len() - at < 2 {
-        return Command::Bad;
-    }
-    Command::Host(Call::View(input[at + 1]))
-}
-
-// Commands from 0c on; no other byte begins a command.
-#[tactic(auto, unfolding(crate::specs::Decode::decode_from_0c))]
-fn decode_from_0c(c: u8, input: &[u8], at: usize) -> Command
-    requires { at ≤ length input.now }
-    ensures { result ≡ D.decode_from_0c c (drop at input.now) }
-{
-    if c == 12 {
-        return start(Starting::Stored, input, at);
-    }
-    Command::Bad
-}
-
-// Commands 06 to 0b; another byte goes to `decode_from_0c`.
-#[tactic(auto, unfolding(crate::specs::Decode::decode_06_to_0b))]
-fn decode_06_to_0b(c: u8, input: &[u8], at: usize) -> Command
-    requires { at ≤ length input.now }
-    ensures { result ≡ D.decode_06_to_0b c (drop at input.now) }
-{
-    if c == 6 {
-        return select(input, at);
-    }
-    if c == 7 {
-        return rising(input, at);
-    }
-    if c == 8 {
-        return falling(input, at);
-    }
-    if c == 9 {
-        return pins(input, at);
-    }
-    if c == 10 {
-        return stored_image(input, at);
-    }
-    if c == 11 {
-        return view(input, at);
-    }
-    decode_from_0c(c, input, at)
-}
-
-// Commands 01 to 05; another byte goes to `decode_06_to_0b`.
-#[tactic(auto, unfolding(crate::specs::Decode::decode_01_to_05))]
-fn decode_01_to_05(c: u8, input: &[u8], at: usize) -> Command
-    requires { at ≤ length input.now }
-    ensures { result ≡ D.decode_01_to_05 c (drop at input.now) }
-{
-    if c == 1 {
-        return start(Starting::Checked, input, at);
-    }
-    if c == 2 {
-        return accelerations(input, at);
-    }
-    if c == 3 {
-        return temperature(input, at);
-    }
-    if c == 4 {
-        return supply(input, at);
-    }
-    if c == 5 {
-        return due(input, at);
-    }
-    decode_06_to_0b(c, input, at)
+    let opcode = Opcode::try_from(*bytes.first()?).ok()?;
+    named(opcode, bytes)
 }
 
 // The command that stands at `at`; beyond the input there is none.
@@ -298,10 +213,7 @@ fn decode_01_to_05(c: u8, input: &[u8], at: usize) -> Command
 pub fn decode(input: &[u8], at: usize) -> Command
     ensures { result ≡ D.decoded (drop at input.now) }
 {
-    if at < input.len() {
-        return decode_01_to_05(input[at], input, at);
-    }
-    Command::Bad
+    input.get(at..).and_then(head).unwrap_or(Command::Bad)
 }
 
 // How many bytes the command of a timed call is.
@@ -312,10 +224,8 @@ fn timed_size(t: Timed) -> usize
     match t {
         Timed::Accelerations(_, _, _) => 25,
         Timed::Supply(_) => 15,
-        Timed::Due => 13,
-        Timed::Rising(_) => 14,
-        Timed::Falling => 13,
-        Timed::Pins(_, _) => 14,
+        Timed::Due | Timed::Falling => 13,
+        Timed::Rising(_) | Timed::Pins(_, _) => 14,
     }
 }
 
@@ -327,8 +237,7 @@ fn call_size(c: Call) -> usize
     match c {
         Call::At(_, t) => timed_size(t),
         Call::Temperature(_) => 5,
-        Call::Select(_) => 2,
-        Call::View(_) => 2,
+        Call::Select(_) | Call::View(_) => 2,
         Call::StoredImage(_, _) => 13,
     }
 }
@@ -350,67 +259,13 @@ pub fn size(c: Command) -> usize
 pub fn is_bad(c: Command) -> bool
     ensures { result ≡ D.is_bad c }
 {
-    match c {
-        Command::Start(_, _) => false,
-        Command::Host(_) => false,
-        Command::Bad => true,
-    }
+    matches!(c, Command::Bad)
 }
 
-#[tactic(auto, unfolding(crate::specs::Decode::wants_from_0c))]
-fn wants_from_0c(c: u8) -> usize
-    ensures { result ≡ D.wants_from_0c c }
-{
-    if c == 12 {
-        return 32;
-    }
-    1
-}
-
-#[tactic(auto, unfolding(crate::specs::Decode::wants_06_to_0b))]
-fn wants_06_to_0b(c: u8) -> usize
-    ensures { result ≡ D.wants_06_to_0b c }
-{
-    if c == 6 {
-        return 2;
-    }
-    if c == 7 {
-        return 14;
-    }
-    if c == 8 {
-        return 13;
-    }
-    if c == 9 {
-        return 14;
-    }
-    if c == 10 {
-        return 13;
-    }
-    if c == 11 {
-        return 2;
-    }
-    wants_from_0c(c)
-}
-
-// How many bytes a command has that begins with this byte.
+// How many bytes a command has that begins with this byte; an unknown byte is whole at once.
 #[tactic(auto, unfolding(crate::specs::Decode::wants))]
 pub fn wants(c: u8) -> usize
     ensures { result ≡ D.wants c }
 {
-    if c == 1 {
-        return 32;
-    }
-    if c == 2 {
-        return 25;
-    }
-    if c == 3 {
-        return 5;
-    }
-    if c == 4 {
-        return 15;
-    }
-    if c == 5 {
-        return 13;
-    }
-    wants_06_to_0b(c)
+    Opcode::try_from(c).map_or(1, Opcode::size)
 }

@@ -1,5 +1,5 @@
 -- What follows a command does not alter it, and no command is longer than what is there.
-use Rattle.std.specs.Prelude.{◌≡◌, refl, Bool, true, false, cond, List, ◌∷◌, ◌++◌, ℕ, ◌+◌, ◌≤◌, ◌<◌, ltb, eqb, take, drop}
+use Rattle.std.specs.Prelude.{◌≡◌, refl, Bool, true, false, cond, List, ◌∷◌, ◌++◌, ℕ, ◌+◌, ◌≤◌, ◌<◌, ltb, eqb, take, drop, Result, Ok, Err}
 use Rattle.std.proofs.Common.{sym, ap, ◌∙◌, arith, length-drop}
 use borrow.Author.Tests.{lt-ltb, le-ltb, ltb-true, ltb-false, ne_eqb}
 use Rattle.std.proofs.Math.ListN.{length, length-append, get_or-append}
@@ -9,7 +9,9 @@ use Rattle.calls.specs.declared.types.Timed.{Timed}
 use Rattle.calls.specs.declared.types.Call.{Call}
 use Rattle.calls.specs.declared.types.Starting.{Starting}
 use Rattle.commands.specs.declared.Command.{Command}
-use Rattle.commands.specs.Decode.{part, big, number_at, moment_at, signed_at, byte_at, within, either_of, lines, start, image, accelerations, temperature, supply, due, select, rising, falling, pins, stored_image, view, decode_from_0c, decode_06_to_0b, decode_01_to_05, decoded, wants_from_0c, wants_06_to_0b, wants, timed, timed_size, call_size, size, is_bad}
+use Rattle.commands.specs.declared.Opcode.{Opcode}
+use Rattle.commands.specs.declared.UnknownByte.{UnknownByte}
+use Rattle.commands.specs.Decode.{part, big, number_at, moment_at, signed_at, byte_at, within, either_of, lines, start, image, accelerations, temperature, supply, due, select, rising, falling, pins, stored_image, view, opcode, named, named_by, decoded, opcode_size, size_by, wants, timed, timed_size, call_size, size, is_bad}
 
 -- ---- what follows does not alter the command at the head
 
@@ -32,32 +34,28 @@ moment_before a l m h =
 
 -- ---- every first byte wants a byte at least
 
-either_some : (t : Bool) (a b : ℕ) → 0 < a → 0 < b → 0 < cond t a b
-either_some true a b p q = p
-either_some false a b p q = q
+opcode_size_some : (o : Opcode) → 0 < opcode_size o
+unfolding opcode_size
+opcode_size_some Opcode.Start = omega arith
+opcode_size_some Opcode.Accelerations = omega arith
+opcode_size_some Opcode.Temperature = omega arith
+opcode_size_some Opcode.Supply = omega arith
+opcode_size_some Opcode.Due = omega arith
+opcode_size_some Opcode.Select = omega arith
+opcode_size_some Opcode.Rising = omega arith
+opcode_size_some Opcode.Falling = omega arith
+opcode_size_some Opcode.Pins = omega arith
+opcode_size_some Opcode.StoredImage = omega arith
+opcode_size_some Opcode.View = omega arith
+opcode_size_some Opcode.StartStored = omega arith
 
-wants_from_0c_some : (c : ℕ) → 0 < wants_from_0c c
-unfolding wants_from_0c
-wants_from_0c_some c = either_some (eqb c 12) _ _ (omega arith) (omega arith)
-
-wants_06_to_0b_some : (c : ℕ) → 0 < wants_06_to_0b c
-unfolding wants_06_to_0b
-wants_06_to_0b_some c =
-    either_some (eqb c 6) _ _ (omega arith)
-    (either_some (eqb c 7) _ _ (omega arith)
-    (either_some (eqb c 8) _ _ (omega arith)
-    (either_some (eqb c 9) _ _ (omega arith)
-    (either_some (eqb c 10) _ _ (omega arith)
-    (either_some (eqb c 11) _ _ (omega arith) (wants_from_0c_some c))))))
+size_by_some : (r : Result Opcode UnknownByte) → 0 < size_by r
+size_by_some (Ok o) = opcode_size_some o
+size_by_some (Err e) = omega arith
 
 pub wants_some : (c : ℕ) → 0 < wants c
 unfolding wants
-wants_some c =
-    either_some (eqb c 1) _ _ (omega arith)
-    (either_some (eqb c 2) _ _ (omega arith)
-    (either_some (eqb c 3) _ _ (omega arith)
-    (either_some (eqb c 4) _ _ (omega arith)
-    (either_some (eqb c 5) _ _ (omega arith) (wants_06_to_0b_some c)))))
+wants_some c = size_by_some (opcode c)
 
 -- ---- a command whose bytes are there
 
@@ -139,39 +137,30 @@ module _ (l m : List ℕ) where
   unfolding view
   view_same = same 2 _ _ (λ p. rw (b_same 1 (omega arith)))
 
-  -- of two commands the one that the byte names
-  pick : (t : Bool) (a b c d : Command) (x y : ℕ) → (Has l x a → c ≡ a) → (Has l y b → d ≡ b) → Has l (cond t x y) (cond t a b) → cond t c d ≡ cond t a b
-  pick true a b c d x y p q g = p g
-  pick false a b c d x y p q g = q g
+  named_same : (o : Opcode) → Has l (opcode_size o) (named o l) → named o (l ++ m) ≡ named o l
+  unfolding named opcode_size
+  named_same Opcode.Start = start_same Starting.Checked
+  named_same Opcode.Accelerations = accelerations_same
+  named_same Opcode.Temperature = temperature_same
+  named_same Opcode.Supply = supply_same
+  named_same Opcode.Due = due_same
+  named_same Opcode.Select = select_same
+  named_same Opcode.Rising = rising_same
+  named_same Opcode.Falling = falling_same
+  named_same Opcode.Pins = pins_same
+  named_same Opcode.StoredImage = stored_image_same
+  named_same Opcode.View = view_same
+  named_same Opcode.StartStored = start_same Starting.Stored
 
-  decode_from_0c_same : (c : ℕ) → Has l (wants_from_0c c) (decode_from_0c c l) → decode_from_0c c (l ++ m) ≡ decode_from_0c c l
-  unfolding decode_from_0c wants_from_0c
-  decode_from_0c_same c = pick (eqb c 12) _ _ _ _ _ _ (start_same Starting.Stored) (λ g. refl)
+  named_by_same : (r : Result Opcode UnknownByte) → Has l (size_by r) (named_by r l) → named_by r (l ++ m) ≡ named_by r l
+  named_by_same (Ok o) g = named_same o g
+  named_by_same (Err e) g = refl
 
-  decode_06_to_0b_same : (c : ℕ) → Has l (wants_06_to_0b c) (decode_06_to_0b c l) → decode_06_to_0b c (l ++ m) ≡ decode_06_to_0b c l
-  unfolding decode_06_to_0b wants_06_to_0b
-  decode_06_to_0b_same c =
-      pick (eqb c 6) _ _ _ _ _ _ select_same
-      (pick (eqb c 7) _ _ _ _ _ _ rising_same
-      (pick (eqb c 8) _ _ _ _ _ _ falling_same
-      (pick (eqb c 9) _ _ _ _ _ _ pins_same
-      (pick (eqb c 10) _ _ _ _ _ _ stored_image_same
-      (pick (eqb c 11) _ _ _ _ _ _ view_same (decode_from_0c_same c))))))
-
-  decode_01_to_05_same : (c : ℕ) → Has l (wants c) (decode_01_to_05 c l) → decode_01_to_05 c (l ++ m) ≡ decode_01_to_05 c l
-  unfolding decode_01_to_05 wants
-  decode_01_to_05_same c =
-      pick (eqb c 1) _ _ _ _ _ _ (start_same Starting.Checked)
-      (pick (eqb c 2) _ _ _ _ _ _ accelerations_same
-      (pick (eqb c 3) _ _ _ _ _ _ temperature_same
-      (pick (eqb c 4) _ _ _ _ _ _ supply_same
-      (pick (eqb c 5) _ _ _ _ _ _ due_same (decode_06_to_0b_same c)))))
-
-  decoded_same : 0 < length l → Has l (wants (byte_at 0 l)) (decode_01_to_05 (byte_at 0 l) l) → decoded (l ++ m) ≡ decoded l
-  unfolding decoded
+  decoded_same : 0 < length l → Has l (wants (byte_at 0 l)) (named_by (opcode (byte_at 0 l)) l) → decoded (l ++ m) ≡ decoded l
+  unfolding decoded wants
   decoded_same h g =
       let p : 0 < length (l ++ m) = simp length-append (omega arith) in
-      rw (lt-ltb 0 (length (l ++ m)) p, lt-ltb 0 (length l) h, b_same 0 h) (decode_01_to_05_same (byte_at 0 l) g)
+      rw (lt-ltb 0 (length (l ++ m)) p, lt-ltb 0 (length l) h, b_same 0 h) (named_by_same (opcode (byte_at 0 l)) g)
 
   -- a command with all its bytes there stays the same, whatever follows
   pub decoded_whole : wants (byte_at 0 l) ≤ length l → decoded (l ++ m) ≡ decoded l
@@ -280,32 +269,28 @@ module _ (l : List ℕ) (some : 0 < length l) where
   unfolding view size call_size
   view_fits = in_fits 2 _ (omega arith)
 
-  decode_from_0c_fits : (c : ℕ) → size (decode_from_0c c l) ≤ length l
-  unfolding decode_from_0c
-  decode_from_0c_fits c = either (eqb c 12) _ _ (start_fits Starting.Stored) bad_fits
+  named_fits : (o : Opcode) → size (named o l) ≤ length l
+  unfolding named
+  named_fits Opcode.Start = start_fits Starting.Checked
+  named_fits Opcode.Accelerations = accelerations_fits
+  named_fits Opcode.Temperature = temperature_fits
+  named_fits Opcode.Supply = supply_fits
+  named_fits Opcode.Due = due_fits
+  named_fits Opcode.Select = select_fits
+  named_fits Opcode.Rising = rising_fits
+  named_fits Opcode.Falling = falling_fits
+  named_fits Opcode.Pins = pins_fits
+  named_fits Opcode.StoredImage = stored_image_fits
+  named_fits Opcode.View = view_fits
+  named_fits Opcode.StartStored = start_fits Starting.Stored
 
-  decode_06_to_0b_fits : (c : ℕ) → size (decode_06_to_0b c l) ≤ length l
-  unfolding decode_06_to_0b
-  decode_06_to_0b_fits c =
-      either (eqb c 6) _ _ select_fits
-      (either (eqb c 7) _ _ rising_fits
-      (either (eqb c 8) _ _ falling_fits
-      (either (eqb c 9) _ _ pins_fits
-      (either (eqb c 10) _ _ stored_image_fits
-      (either (eqb c 11) _ _ view_fits (decode_from_0c_fits c))))))
-
-  decode_01_to_05_fits : (c : ℕ) → size (decode_01_to_05 c l) ≤ length l
-  unfolding decode_01_to_05
-  decode_01_to_05_fits c =
-      either (eqb c 1) _ _ (start_fits Starting.Checked)
-      (either (eqb c 2) _ _ accelerations_fits
-      (either (eqb c 3) _ _ temperature_fits
-      (either (eqb c 4) _ _ supply_fits
-      (either (eqb c 5) _ _ due_fits (decode_06_to_0b_fits c)))))
+  named_by_fits : (r : Result Opcode UnknownByte) → size (named_by r l) ≤ length l
+  named_by_fits (Ok o) = named_fits o
+  named_by_fits (Err e) = bad_fits
 
   pub size_fits : size (decoded l) ≤ length l
   unfolding decoded
-  size_fits = either (ltb 0 (length l)) _ _ (decode_01_to_05_fits (byte_at 0 l)) bad_fits
+  size_fits = either (ltb 0 (length l)) _ _ (named_by_fits (opcode (byte_at 0 l))) bad_fits
 
 -- a start has its image
 bad_start : (by : Starting) (t : Time) → Command.Bad ≡ Command.Start by t → ⊥
@@ -325,7 +310,7 @@ image_there l by t e = started_fits l by t (ltb 0 (length l)) refl e
 -- ---- an unknown byte is a bad command, whatever follows
 
 pub unknown : (b : ℕ) (m : List ℕ) → 12 < b → decoded (b ∷ m) ≡ Command.Bad
-unfolding decoded decode_01_to_05 decode_06_to_0b decode_from_0c
+unfolding decoded opcode
 unknown b m h =
     let other : (k : ℕ) → k ≤ 12 → eqb b k ≡ false = λ k g. ne_eqb b k (λ (e : b ≡ k). omega arith) in
     let some : 0 < length (b ∷ m) = omega arith in

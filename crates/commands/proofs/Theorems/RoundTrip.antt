@@ -7,7 +7,7 @@ use Rattle.calls.specs.declared.types.Timed.{Timed}
 use Rattle.calls.specs.declared.types.Call.{Call}
 use Rattle.calls.specs.declared.types.Starting.{Starting}
 use Rattle.commands.specs.declared.Command.{Command}
-use Rattle.commands.specs.Decode.{big, number_at, signed, moment_at, bit, timed, within, lines, start, image, accelerations, temperature, supply, due, select, rising, falling, pins, stored_image, view, decode_01_to_05, decode_from_0c, decode_06_to_0b, decoded, timed_size, call_size, size}
+use Rattle.commands.specs.Decode.{big, number_at, signed, moment_at, bit, timed, within, lines, start, image, accelerations, temperature, supply, due, select, rising, falling, pins, stored_image, view, opcode, named, named_by, decoded, timed_size, call_size, size}
 use Rattle.commands.specs.Encode.{bytes, time_bytes, complement, lines_byte, timed_bytes, call_bytes, start_byte, encoded, TimeFits, SignedFits, TimedFits, CallFits, Fits}
 use Rattle.commands.proofs.Theorems.Laws.{big_more}
 use Rattle.commands.proofs.Theorems.More.{unknown}
@@ -71,14 +71,14 @@ lines_back l before after = sixteen l before.scl before.sda after.scl after.sda
 -- ---- commands
 
 -- the first byte says which command it is, and its n bytes are there
-read : (b n : ℕ) (l : List ℕ) (c d : Command) → decode_01_to_05 b (b ∷ l) ≡ within n (b ∷ l) c → n ≤ length (b ∷ l) → c ≡ d → decoded (b ∷ l) ≡ d
+read : (b n : ℕ) (l : List ℕ) (c d : Command) → named_by (opcode b) (b ∷ l) ≡ within n (b ∷ l) c → n ≤ length (b ∷ l) → c ≡ d → decoded (b ∷ l) ≡ d
 unfolding decoded
 read b n l c d which h e =
     let some : 0 < length (b ∷ l) = omega arith in
     rw (lt-ltb 0 (length (b ∷ l)) some) (which ∙ rw (le-ltb (length (b ∷ l)) n h) e)
 
 timed_back : (t : Time) (what : Timed) (rest : List ℕ) → TimeFits t → TimedFits what → decoded (timed_bytes t what ++ rest) ≡ Command.Host (Call.At t what)
-unfolding timed_bytes time_bytes bytes TimedFits decode_01_to_05 decode_06_to_0b accelerations supply due rising falling pins number_at
+unfolding timed_bytes time_bytes bytes TimedFits opcode named accelerations supply due rising falling pins number_at
 timed_back t (Timed.Accelerations x y z) rest f g =
     read 0x02 25 _ _ _ refl (omega arith) (rw (time_back 0x02 t (bytes 4 (complement x) ++ bytes 4 (complement y) ++ bytes 4 (complement z) ++ rest) f, signed_bytes_back x g.0, signed_bytes_back y g.1, signed_bytes_back z g.2))
 timed_back t (Timed.Supply rail) rest f g = read 0x04 15 _ _ _ refl (omega arith) (rw (time_back 0x04 t (bytes 2 rail ++ rest) f, big_bytes 2 rail g))
@@ -89,7 +89,7 @@ timed_back t Timed.Falling rest f g = read 0x08 13 _ _ _ refl (omega arith) (rw 
 timed_back t (Timed.Pins before after) rest f g = read 0x09 14 _ _ _ refl (omega arith) (lines_back _ before after ∙ rw (time_back 0x09 t (lines_byte before after ∷ rest) f))
 
 call_back : (c : Call) (rest : List ℕ) → CallFits c → decoded (call_bytes c ++ rest) ≡ Command.Host c
-unfolding call_bytes CallFits time_bytes bytes decode_01_to_05 decode_06_to_0b temperature select view stored_image number_at
+unfolding call_bytes CallFits time_bytes bytes opcode named temperature select view stored_image number_at
 call_back (Call.At t what) rest f = timed_back t what rest f.0 f.1
 call_back (Call.Temperature x) rest f = read 0x03 5 _ _ _ refl (omega arith) (rw (signed_bytes_back x f))
 call_back (Call.Select false) rest f = read 0x06 2 _ _ _ refl (omega arith) refl
@@ -99,7 +99,7 @@ call_back (Call.StoredImage t n) rest f = read 0x0a 13 _ _ _ refl (omega arith) 
 
 -- the command is read back, whatever follows
 pub round_trip : (c : Command) (image rest : List ℕ) → Fits c image → decoded (encoded c image ++ rest) ≡ c
-unfolding encoded start_byte Fits time_bytes bytes decode_01_to_05 decode_06_to_0b decode_from_0c start
+unfolding encoded start_byte Fits time_bytes bytes opcode named start
 round_trip (Command.Start Starting.Checked t) image rest f =
     let h : 32 ≤ length (encoded (Command.Start Starting.Checked t) image ++ rest) = simp length-append (omega arith) in
     read 0x01 32 _ _ _ refl h (rw (time_back 0x01 t (image ++ rest) f.0))

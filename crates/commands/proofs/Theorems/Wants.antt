@@ -1,10 +1,12 @@
 -- The first byte of a command says how long it is.
-use Rattle.std.specs.Prelude.{◌≡◌, refl, Bool, true, false, cond, List, ℕ, ◌<◌, ltb, eqb, length}
+use Rattle.std.specs.Prelude.{◌≡◌, refl, Bool, true, false, cond, List, ℕ, ◌<◌, ltb, eqb, length, Result, Ok, Err}
 use Rattle.std.proofs.Common.{sym, ◌∙◌, arith, lt-ltb}
 use Rattle.std.proofs.Math.Path.{ap}
 use Rattle.calls.specs.declared.types.Starting.{Starting}
 use Rattle.commands.specs.declared.Command.{Command}
-use Rattle.commands.specs.Decode.{byte_at, start, accelerations, temperature, supply, due, select, rising, falling, pins, stored_image, view, decode_from_0c, decode_06_to_0b, decode_01_to_05, decoded, wants_from_0c, wants_06_to_0b, wants, timed_size, call_size, size, is_bad}
+use Rattle.commands.specs.declared.Opcode.{Opcode}
+use Rattle.commands.specs.declared.UnknownByte.{UnknownByte}
+use Rattle.commands.specs.Decode.{byte_at, start, accelerations, temperature, supply, due, select, rising, falling, pins, stored_image, view, opcode, named, named_by, decoded, opcode_size, size_by, wants, timed_size, call_size, size, is_bad}
 
 -- unless it is bad, the command takes n bytes
 abbrev Sized : ℕ → Command → Type 0
@@ -15,11 +17,6 @@ unfolding is_bad
 bad_sized n e =
     let z : ◌≡◌ {A = ℕ} 1 0 = ap (λ (b : Bool). cond b 1 0) e in
     absurd (let y : ⊥ = omega arith in y)
-
--- of two commands the one that a test names
-pick : (t : Bool) (a b : Command) (x y : ℕ) → Sized x a → Sized y b → Sized (cond t x y) (cond t a b)
-pick true a b x y p q = p
-pick false a b x y p q = q
 
 either : {n : ℕ} (t : Bool) (a b : Command) → Sized n a → Sized n b → Sized n (cond t a b)
 either true a b p q = p
@@ -74,32 +71,29 @@ module _ (l : List ℕ) where
   unfolding view size call_size
   view_sized = there 2 _ (λ e. refl)
 
-  sized_from_0c : (c : ℕ) → Sized (wants_from_0c c) (decode_from_0c c l)
-  unfolding decode_from_0c wants_from_0c
-  sized_from_0c c = pick (eqb c 12) _ _ _ _ (start_sized Starting.Stored) (bad_sized 1)
+  named_sized : (o : Opcode) → Sized (opcode_size o) (named o l)
+  unfolding named opcode_size
+  named_sized Opcode.Start = start_sized Starting.Checked
+  named_sized Opcode.Accelerations = accelerations_sized
+  named_sized Opcode.Temperature = temperature_sized
+  named_sized Opcode.Supply = supply_sized
+  named_sized Opcode.Due = due_sized
+  named_sized Opcode.Select = select_sized
+  named_sized Opcode.Rising = rising_sized
+  named_sized Opcode.Falling = falling_sized
+  named_sized Opcode.Pins = pins_sized
+  named_sized Opcode.StoredImage = stored_image_sized
+  named_sized Opcode.View = view_sized
+  named_sized Opcode.StartStored = start_sized Starting.Stored
 
-  sized_06_to_0b : (c : ℕ) → Sized (wants_06_to_0b c) (decode_06_to_0b c l)
-  unfolding decode_06_to_0b wants_06_to_0b
-  sized_06_to_0b c =
-      pick (eqb c 6) _ _ _ _ select_sized
-      (pick (eqb c 7) _ _ _ _ rising_sized
-      (pick (eqb c 8) _ _ _ _ falling_sized
-      (pick (eqb c 9) _ _ _ _ pins_sized
-      (pick (eqb c 10) _ _ _ _ stored_image_sized
-      (pick (eqb c 11) _ _ _ _ view_sized (sized_from_0c c))))))
-
-  sized_01_to_05 : (c : ℕ) → Sized (wants c) (decode_01_to_05 c l)
-  unfolding decode_01_to_05 wants
-  sized_01_to_05 c =
-      pick (eqb c 1) _ _ _ _ (start_sized Starting.Checked)
-      (pick (eqb c 2) _ _ _ _ accelerations_sized
-      (pick (eqb c 3) _ _ _ _ temperature_sized
-      (pick (eqb c 4) _ _ _ _ supply_sized
-      (pick (eqb c 5) _ _ _ _ due_sized (sized_06_to_0b c)))))
+  named_by_sized : (r : Result Opcode UnknownByte) → Sized (size_by r) (named_by r l)
+  named_by_sized (Ok o) = named_sized o
+  named_by_sized (Err e) = bad_sized 1
 
   -- a command that is not bad takes as many bytes as its first byte says
   pub size_wanted : 0 < length l → is_bad (decoded l) ≡ false → size (decoded l) ≡ wants (byte_at 0 l)
-  unfolding decoded
+  unfolding decoded wants
   size_wanted h e =
-      let named : decoded l ≡ decode_01_to_05 (byte_at 0 l) l = rw (lt-ltb 0 (length l) h) in
-      ap size named ∙ sized_01_to_05 (byte_at 0 l) (sym (ap is_bad named) ∙ e)
+      let r = opcode (byte_at 0 l) in
+      let there : decoded l ≡ named_by r l = rw (lt-ltb 0 (length l) h) in
+      ap size there ∙ named_by_sized r (sym (ap is_bad there) ∙ e)

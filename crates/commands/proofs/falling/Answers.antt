@@ -1,7 +1,0 @@
-use Rattle.commands.specs.Decode.{falling}
-use Rattle.commands.proofs.Theorems.Laws.{there, moment_drop}
-use Rattle.commands.proofs.falling.Goals as goal
-
-pub returns : goal.returns
-unfolding falling
-returns c = rw (there 13 _ _ _ c.if-input-at-lt13.false, moment_drop, c.moment-t.ensures)
