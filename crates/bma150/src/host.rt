@@ -74,16 +74,6 @@ fn effect(sensor: Sensor, now: Time, t: Timed) -> Served
     }
 }
 
-fn replied(r: Reported) -> Replied
-    ensures sensor_value { result.sensor ≡ r.sensor }
-    ensures outcome_value { result.outcome ≡ r.outcome }
-{
-    Replied {
-        sensor: r.sensor,
-        outcome: r.outcome,
-    }
-}
-
 // A start by either call.
 fn started(by: Starting, when: Time, image: &[u8]) -> Replied
     ensures outcome_value { Table.number result.outcome ≡ C.start_number by when image.now }
@@ -157,7 +147,7 @@ impl Bma150 {
         ensures outcome_value { Table.number result.outcome ≡ (C.called self (Call.At now (Timed.Accelerations x y z))).number }
         ensures sensor_value { result.sensor ≡ (C.called self (Call.At now (Timed.Accelerations x y z))).sensor }
     {
-        replied(self.timed(now, Timed::Accelerations(x, y, z)))
+        self.timed(now, Timed::Accelerations(x, y, z)).into()
     }
 
     #[tactic(auto, unfolding(crate::specs::Called::leaves, calls::specs::Table::unless_refused))]
@@ -200,21 +190,21 @@ impl Bma150 {
         ensures outcome_value { Table.number result.outcome ≡ (C.called self (Call.At now (Timed.Rising mosi))).number }
         ensures sensor_value { result.sensor ≡ (C.called self (Call.At now (Timed.Rising mosi))).sensor }
     {
-        replied(self.timed(now, Timed::Rising(mosi)))
+        self.timed(now, Timed::Rising(mosi)).into()
     }
 
     pub fn falling(self, now: Time) -> Replied
         ensures outcome_value { Table.number result.outcome ≡ (C.called self (Call.At now Timed.Falling)).number }
         ensures sensor_value { result.sensor ≡ (C.called self (Call.At now Timed.Falling)).sensor }
     {
-        replied(self.timed(now, Timed::Falling))
+        self.timed(now, Timed::Falling).into()
     }
 
     pub fn pins(self, now: Time, before: Levels, after: Levels) -> Replied
         ensures outcome_value { Table.number result.outcome ≡ (C.called self (Call.At now (Timed.Pins before after))).number }
         ensures sensor_value { result.sensor ≡ (C.called self (Call.At now (Timed.Pins before after))).sensor }
     {
-        replied(self.timed(now, Timed::Pins(before, after)))
+        self.timed(now, Timed::Pins(before, after)).into()
     }
 
     // The byte that a register shows, and whether it is of a mean.

@@ -1,4 +1,6 @@
 // What the calls answer.
+ghost use Rattle.std.specs.Prelude.{◌≡◌};
+
 use crate::host::Bma150;
 use calls::types::Refusal;
 use waits::types::Report;
@@ -16,6 +18,18 @@ pub struct Reported {
     pub sensor: Bma150,
     pub outcome: Result<(), Refusal>,
     pub report: Option<Report>,
+}
+
+// A reply without the report.
+impl From<Reported> for Replied {
+    ghost from_gives = { λ r p. (p.sensor ≡ r.sensor) × (p.outcome ≡ r.outcome) };
+
+    fn from(r: Reported) -> Replied {
+        Replied {
+            sensor: r.sensor,
+            outcome: r.outcome,
+        }
+    }
 }
 
 // The answer of a lent due call: the sensor stays where the host keeps it.
