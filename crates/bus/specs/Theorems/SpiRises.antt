@@ -65,7 +65,7 @@ is_write : Option (ℕ × ℕ) → Bool
 is_write None = false
 is_write (Some (a, v)) = true
 
-not_none : {A : Type 0} {a v : ℕ} → None ≡ Some (a, v) → A
+not_none : {A : Type 0} {a v : ℕ} → ◌≡◌ {A = Option (ℕ × ℕ)} None (Some (a, v)) → A
 unfolding is_write
 not_none e = absurd_bool (sym (ap is_write e))
 
