@@ -1,8 +1,4 @@
-pub mod Theorems
-pub mod Columns
-pub mod Products
-pub mod Signs
+pub mod Held
 pub mod Words
-pub mod Sizes
 pub mod Halvings
-pub mod Steps
+pub mod Theorems

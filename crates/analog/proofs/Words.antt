@@ -1,90 +1,45 @@
--- Numbers of two words: the bounds of their parts, and a shift with a carry. The base is a variable, since `omega` stops at numbers of 128 bits.
-use Rattle.std.proofs.Common.{◌≡◌, ℕ, ◌+◌, ◌-◌, ◌*◌, ◌/◌, ◌%◌, ◌^◌, ◌<◌, ◌≤◌, sym, ap, ◌∙◌, mul-le-mul_right, add-mul, lt_of_not-le, arith, lit≤, shl_exact, shr-shr, shr_lt}
-use lib.Pow.{high, low, mod-pow-add, field}
-use lib.Bits.{bit_and, bit_or, and_mask, mask_lt, or_shifted}
+-- Numbers of 128 bits: what a quotient and the lowest 64 bits of one are.
+use Rattle.std.proofs.Math.Nat.{div-div-eq-div-mul, zero-div}
+use Rattle.std.proofs.Common.{zero, neg_ℤ, ◌≡◌, ℕ, suc, ◌+◌, ◌-◌, ◌*◌, ◌/◌, ◌%◌, ◌^◌, ◌<◌, ◌≤◌, ℤ, pos, negsuc, nat_abs, bit_and, ap, ◌∙◌, div-lt_iff_lt-mul, mul-le-mul_left, add-mul, one-mul, mul-one, arith, lit<, lt_trans, lt→ltb, FitsSigned, to_z, of_z}
+use lib.Signed.{quot_z}
+use mir.Syntax.{w128}
+use Rattle.std.proofs.lemmas.Int.{to_z-of_z, to_z_pos, quot_fits}
+use Rattle.std.proofs.lemmas.Nat.{and_mask}
+use Rattle.analog.specs.Round.{round, bits_64}
+use Rattle.analog.proofs.Held.{wide, away}
+use Rattle.analog.proofs.Theorems.Near.{abs_round}
 
--- a sum of two numbers of two digits that has two digits: the high digits' sum is a digit
-pub high_fits : (b h l k m : ℕ) → h * b + l + (k * b + m) < b * b → h + k < b
-high_fits b h l k m p = lt_of_not-le (λ g. let e : b * b ≤ (h + k) * b = mul-le-mul_right b g in absurd (omega (arith, add-mul h k b)))
+-- the lowest 64 bits of 128
+pub low_bits : (z : ℤ) (b : ℕ) → FitsSigned w128 z → b ≡ of_z w128 z → bit_and b 18446744073709551615 ≡ bits_64 z
+unfolding bits_64
+low_bits (pos n) b f e = ap (λ (m : ℕ). bit_and m 18446744073709551615) e ∙ and_mask n 64
+low_bits (negsuc n) b f e =
+    let l : n < 2 ^ 127 = f.sfits in
+    let r : (2 ^ 128 - suc n) % 2 ^ 64 ≡ 2 ^ 64 - 1 - n % 2 ^ 64 = omega arith in
+    ap (λ (m : ℕ). bit_and m 18446744073709551615) e ∙ and_mask (2 ^ 128 - suc n) 64 ∙ r
 
--- with a carry too
-pub carry_fits : (b h l k m : ℕ) → h * b + l + (k * b + m) < b * b → b ≤ l + m → h + k + 1 < b
-carry_fits b h l k m p q = lt_of_not-le (λ g. let e : b * b ≤ (h + k + 1) * b = mul-le-mul_right b g in absurd (omega (arith, add-mul h k b, add-mul (h + k) 1 b)))
+-- a quotient of 128 bits
+pub quotient : (r : ℤ) (d : ℕ) → FitsSigned w128 r → 0 < d → d < 2 ^ 64 → wide (quot_z (wide r) (to_z w128 d)) ≡ quot_z r (pos d)
+quotient r d f p q = rw (to_z-of_z w128 r f, to_z_pos w128 d (lt_trans q (lit< tt))) (to_z-of_z w128 (quot_z r (pos d)) (quot_fits w128 r (pos d) f (record { lt = lt→ltb 0 d p })))
 
--- a lesser number with a greater low digit has a lesser high digit
-pub high_lt : (b h l k m : ℕ) → k * b + m ≤ h * b + l → l < m → m < b → k < h
-high_lt b h l k m p q r = lt_of_not-le (λ g. let e : h * b ≤ k * b = mul-le-mul_right b g in absurd (omega arith))
+-- a rounded number is no larger
+pub round_le : (n : ℤ) (d : ℕ) → 0 < d → nat_abs (round n d) ≤ nat_abs n
+round_le n d p =
+    let m = nat_abs n in
+    let h : m * 1 ≤ m * d = mul-le-mul_left m p in
+    let q : (m + d / 2) / d < m + 1 = (div-lt_iff_lt-mul p).1 (omega (arith, add-mul m 1 d, one-mul d, mul-one m)) in
+    rw (abs_round n d) (omega arith)
 
--- a lesser number has no greater high digit
-pub high_le : (b h l k m : ℕ) → k * b + m ≤ h * b + l → l < b → k ≤ h
-high_le b h l k m p q =
-    let r : k < h + 1 = lt_of_not-le (λ g. let e : (h + 1) * b ≤ k * b = mul-le-mul_right b g in absurd (omega (arith, add-mul h 1 b))) in
-    omega arith
+-- a quotient of a quotient
+pub by_both : (m : ℤ) (a b : ℕ) → quot_z (quot_z m (pos a)) (pos b) ≡ quot_z m (pos (a * b))
+by_both (pos n) a b = ap pos (div-div-eq-div-mul n a b)
+by_both (negsuc n) a b = go (suc n / a) (div-div-eq-div-mul (suc n) a b)
+  where
+    go : (k : ℕ) → k / b ≡ suc n / (a * b) → quot_z (neg_ℤ (pos k)) (pos b) ≡ neg_ℤ (pos (suc n / (a * b)))
+    go zero e = rw (← e, zero-div b)
+    go (suc k) e = ap (λ (m : ℕ). neg_ℤ (pos m)) e
 
--- the lowest 64 bits of a number of two words by 2^48, from its words
-shifted : (q l : ℕ) → l < 2 ^ 64 → bit_or (bit_and q (2 ^ 48 - 1) * 2 ^ 16 % 2 ^ 64) (l / 2 ^ 48) ≡ (q * 2 ^ 64 + l) / 2 ^ 48 % 2 ^ 64
-shifted q l p =
-    let n : ℕ = q * 2 ^ 64 + l in
-    let above : n / 2 ^ 48 / 2 ^ 16 ≡ q = shr-shr n 48 16 ∙ high q 64 p in
-    let below : n / 2 ^ 48 % 2 ^ 16 ≡ l / 2 ^ 48 = sym (field n 16 48) ∙ ap (λ (x : ℕ). x / 2 ^ 48) (low q 64 p) in
-    rw (shl_exact 48 16 64 (mask_lt q 48) (lit≤ tt), or_shifted (bit_and q (2 ^ 48 - 1)) 16 (l / 2 ^ 48) (shr_lt 16 48 p), and_mask q 48)
-    (sym (mod-pow-add (n / 2 ^ 48) 48 16 ∙ rw (above, below)))
-
--- a wrapped sum below a summand: the sum carries
-pub wraps : (l m r : ℕ) → r ≡ (l + m) % 2 ^ 64 → r < l → 2 ^ 64 ≤ l + m
-wraps l m r e p = omega arith
-
--- ---- a difference with a borrow
-
--- a lesser number leaves at least 1
-pub one_below : {h k : ℕ} → k < h → 1 ≤ h - k
-one_below p = omega arith
-
--- a word is at most the last
-pub le_last : (x : ℕ) → x < 2 ^ 64 → x ≤ 18446744073709551615
-le_last x p = omega arith
-
--- the low digit with a borrow is a word
-pub borrow_fits : (l m : ℕ) → l < m → m < 2 ^ 64 → (l + (18446744073709551615 - m) < 2 ^ 64) × (l + (18446744073709551615 - m) + 1 < 2 ^ 64)
-borrow_fits l m p q = (omega arith, omega arith)
-
--- a difference is at most the sum
-pub less_left : (m n : ℕ) → m - n ≤ m + n
-less_left m n = omega arith
-
--- in either order
-pub less_right : (m n : ℕ) → n - m ≤ m + n
-less_right m n = omega arith
-
--- ---- a size and a half, by 2^48
-
--- a wrapped sum below the half: the sum carries
-pub rounded_wraps : (l half r : ℕ) → r ≡ (l + half) % 2 ^ 64 → r < half → 2 ^ 64 ≤ l + half
-rounded_wraps l half r e p = omega arith
-
--- the high digit with the carry is a word
-pub rounded_fits : (b h l half : ℕ) → h * b + l + half < b * b → b ≤ l + half → h + 1 < b
-rounded_fits b h l half p q = lt_of_not-le (λ g. let e : b * b ≤ (h + 1) * b = mul-le-mul_right b g in absurd (omega (arith, add-mul h 1 b)))
-
--- the sum with a carry, by its digits
-carried : (b h l half : ℕ) → b ≤ l + half → h * b + l + half ≡ (h + 1) * b + (l + half - b)
-carried b h l half p = omega (arith, add-mul h 1 b)
-
--- the sum without one
-kept : (b h l half : ℕ) → h * b + l + half ≡ h * b + (l + half)
-kept b h l half = omega arith
-
--- the code with a carry
-pub rounded_carries : (h l half r : ℕ) → l < 2 ^ 64 → half < 2 ^ 64 → r ≡ (l + half) % 2 ^ 64 → r < half
-    → bit_or (bit_and (h + 1) (2 ^ 48 - 1) * 2 ^ 16 % 2 ^ 64) (r / 2 ^ 48) ≡ (h * 2 ^ 64 + l + half) / 2 ^ 48 % 2 ^ 64
-rounded_carries h l half r p q e s =
-    let c : 2 ^ 64 ≤ l + half = rounded_wraps l half r e s in
-    let f : r ≡ l + half - 2 ^ 64 = omega arith in
-    rw (carried (2 ^ 64) h l half c, ← f) (shifted (h + 1) r (omega arith))
-
--- the code without one
-pub rounded_keeps : (h l half r : ℕ) → l < 2 ^ 64 → half < 2 ^ 64 → r ≡ (l + half) % 2 ^ 64 → half ≤ r
-    → bit_or (bit_and h (2 ^ 48 - 1) * 2 ^ 16 % 2 ^ 64) (r / 2 ^ 48) ≡ (h * 2 ^ 64 + l + half) / 2 ^ 48 % 2 ^ 64
-rounded_keeps h l half r p q e s =
-    let f : r ≡ l + half = omega arith in
-    rw (kept (2 ^ 64) h l half, ← f) (shifted h r (omega arith))
+-- a number is rounded by half of the divisor away from zero and then the quotient
+pub round_away : (n r : ℤ) (d half : ℕ) → r ≡ away n half → d / 2 ≡ half → quot_z r (pos d) ≡ round n d
+unfolding round
+round_away n r d half e h = rw (e, ← h)

@@ -1,5 +1,4 @@
 pub mod Round
-pub mod Wide
 pub mod Decay
 pub mod Axis
 pub mod Theorems

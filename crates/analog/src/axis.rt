@@ -1,64 +1,43 @@
 // A step of the stage (`Axis` of analog.rs), and the three axes.
-ghost use Rattle.std.specs.Prelude.{◌≡◌, ◌^◌, ◌≤◌, ◌+ℤ◌, ◌*ℤ◌, unsigned_abs};
-ghost use Rattle.analog.specs.Round as R;
-ghost use Rattle.analog.specs.Wide as W;
-ghost use Rattle.analog.specs.Decay as D;
+ghost use Rattle.std.specs.Prelude.{◌≡◌};
 ghost use Rattle.analog.specs.Axis as Ax;
 ghost use Rattle.analog.specs.Theorems.Bounds.{Below};
 
-use crate::decay::factors;
+use crate::decay::{Q, factors};
 use crate::types::{Analog, Axis, Factors};
-use crate::wide::{
-    HALF, Signed, Wide, difference, exact, moved, parts, rounded, size_of, sum, times,
-};
-use time::Time;
+use crate::wide::{low_64, round};
+use time::{Duration, Time};
+
+// A millionth of g.
+const SIGNAL: u64 = 1 << 24;
 
 // An acceleration in the axis's units.
 fn target_of(input: i32) -> i64
     ensures { result ≡ Ax.target input }
 {
-    (input as i64) * 16777216
+    (input as i64) * (SIGNAL as i64)
 }
 
 fn settled(a: Axis, input: i32) -> bool
     ensures { result ≡ Ax.settled a input }
 {
-    if a.output == target_of(input) {
-        return a.velocity == 0;
-    }
-    false
+    a.output == target_of(input) && a.velocity == 0
 }
 
-// The sum of two products of a factor and a distance or a velocity.
-fn joined(a: i64, d: Signed, b: i64, v: Signed) -> Wide
-    requires { (unsigned_abs a ≤ 2 ^ 57) × (unsigned_abs b ≤ 2 ^ 57) }
-    ensures { (W.wide result ≡ a *ℤ W.number d +ℤ b *ℤ W.number v) × (W.size result ≤ 2 ^ 122) }
-{
-    sum(times(parts(a), d), times(parts(b), v))
-}
-
-// A word and such a sum by 2^48, rounded.
-fn landed(base: i64, w: Wide) -> i64
-    requires { W.size w ≤ 2 ^ 122 }
-    ensures { result ≡ R.low_64 (base +ℤ R.round (W.wide w) D.unit) }
-{
-    moved(base, w.negative, rounded(w, HALF))
-}
-
+// One step, by what remains of distance and velocity.
 #[tactic(auto, unfolding(crate::specs::Axis::stepped))]
 fn step(a: Axis, now: Time, input: i32, f: Factors) -> Axis
     requires { Below f }
     ensures { result ≡ Ax.stepped a now input f }
 {
-    let target = target_of(input);
-    let delta = difference(a.output, target);
-    let v = parts(a.velocity);
-    let p = joined(f.re + f.im, delta, f.im, v);
-    let q = joined(f.re - f.im, v, 0 - 2 * f.im, delta);
+    let (r, i) = (f.re as i128, f.im as i128);
+    let target = target_of(input) as i128;
+    let delta = a.output as i128 - target;
+    let velocity = a.velocity as i128;
     Axis {
         at: now,
-        output: landed(target, p),
-        velocity: landed(0, q),
+        output: low_64(target + round((r + i) * delta + i * velocity, Q)),
+        velocity: low_64(round((r - i) * velocity - 2 * i * delta, Q)),
     }
 }
 
@@ -76,31 +55,23 @@ impl Axis {
     pub fn resume(self, now: Time) -> Axis
         ensures { result ≡ Ax.resumed self now }
     {
-        Axis {
-            at: now,
-            output: self.output,
-            velocity: self.velocity,
-        }
+        Axis { at: now, ..self }
     }
 
     // The input was constant since the axis's moment.
+    #[tactic(auto, unfolding(crate::specs::Axis::advanced))]
     pub fn advance(self, now: Time, input: i32) -> Axis
         ensures { result ≡ Ax.advanced self now input }
     {
-        if settled(self, input) {
+        let d = now.since(self.at);
+        if d == Duration(0, 0) || settled(self, input) {
             return self.resume(now);
-        }
-        let at = self.at;
-        let d = now.since(at);
-        if d.0 == 0 {
-            if d.1 == 0 {
-                return self.resume(now);
-            }
         }
         step(self, now, input, factors(d))
     }
 
     // The same for a sample: most often the axis stands on its input, and no call is made.
+    #[tactic(auto, unfolding(crate::specs::Axis::advanced))]
     pub fn sample(self, now: Time, input: i32) -> Axis
         ensures { result ≡ Ax.advanced self now input }
     {
@@ -115,10 +86,11 @@ impl Axis {
     pub fn value(self) -> i64
         ensures { result ≡ Ax.value self }
     {
-        exact(self.output < 0, (size_of(self.output) + 8388608) >> 24)
+        low_64(round(self.output as i128, SIGNAL))
     }
 }
 
+#[tactic(auto, unfolding(crate::specs::Axis::turned))]
 fn turned(a: Axis, now: Time, old: i32, new: i32) -> Axis
     ensures { result ≡ Ax.turned a now old new }
 {
@@ -132,41 +104,38 @@ impl Analog {
     pub fn at_rest(now: Time) -> Analog
         ensures { result ≡ Ax.rest now }
     {
+        let rest = Axis::at_rest(now);
         Analog {
-            x: Axis::at_rest(now),
-            y: Axis::at_rest(now),
-            z: Axis::at_rest(now),
+            x: rest,
+            y: rest,
+            z: rest,
         }
     }
 
     pub fn resume(self, now: Time) -> Analog
         ensures { result ≡ Ax.all_resumed self now }
     {
-        let x = self.x;
-        let y = self.y;
-        let z = self.z;
         Analog {
-            x: x.resume(now),
-            y: y.resume(now),
-            z: z.resume(now),
+            x: self.x.resume(now),
+            y: self.y.resume(now),
+            z: self.z.resume(now),
         }
     }
 
     // `hold_analog`.
+    #[tactic(auto, unfolding(crate::specs::Axis::held))]
     pub fn hold(self, now: Time, x: i32, y: i32, z: i32) -> Analog
         ensures { result ≡ Ax.held self now x y z }
     {
-        let a = self.x;
-        let b = self.y;
-        let c = self.z;
         Analog {
-            x: a.advance(now, x),
-            y: b.advance(now, y),
-            z: c.advance(now, z),
+            x: self.x.advance(now, x),
+            y: self.y.advance(now, y),
+            z: self.z.advance(now, z),
         }
     }
 
     // Every axis whose input changes advances with the old one.
+    #[tactic(auto, unfolding(crate::specs::Axis::all_turned))]
     pub fn turn(
         self,
         now: Time,
@@ -179,13 +148,10 @@ impl Analog {
     ) -> Analog
         ensures { result ≡ Ax.all_turned self now x y z new_x new_y new_z }
     {
-        let a = self.x;
-        let b = self.y;
-        let c = self.z;
         Analog {
-            x: turned(a, now, x, new_x),
-            y: turned(b, now, y, new_y),
-            z: turned(c, now, z, new_z),
+            x: turned(self.x, now, x, new_x),
+            y: turned(self.y, now, y, new_y),
+            z: turned(self.z, now, z, new_z),
         }
     }
 
@@ -193,32 +159,21 @@ impl Analog {
     pub fn axis(self, axis: u8) -> Axis
         ensures { result ≡ Ax.axis_of self axis }
     {
-        if axis == 0 {
-            let a = self.x;
-            return a;
+        match axis {
+            0 => self.x,
+            1 => self.y,
+            _ => self.z,
         }
-        if axis == 1 {
-            let a = self.y;
-            return a;
-        }
-        let a = self.z;
-        a
     }
 
     #[tactic(auto, unfolding(crate::specs::Axis::with_axis))]
     pub fn with_axis(self, axis: u8, a: Axis) -> Analog
         ensures { result ≡ Ax.with_axis self axis a }
     {
-        let mut g = self;
-        if axis == 0 {
-            g.x = a;
-            return g;
+        match axis {
+            0 => Analog { x: a, ..self },
+            1 => Analog { y: a, ..self },
+            _ => Analog { z: a, ..self },
         }
-        if axis == 1 {
-            g.y = a;
-            return g;
-        }
-        g.z = a;
-        g
     }
 }

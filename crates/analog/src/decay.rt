@@ -7,101 +7,104 @@ ghost use Rattle.analog.specs.Decay as D;
 ghost use Rattle.analog.specs.Theorems.Bounds.{Below};
 
 use crate::types::{Factors, Series};
-use crate::wide::{HALF, Signed, exact, opposite, parts, rounded, sum, times};
+use crate::wide::{away, round};
 use time::Duration;
 
-// A product of the series by 2^48 · n: first by 2^48, then by n.
+// One.
+pub(crate) const Q: u64 = 1 << 48;
+
+// √2 · π · 1500 per second, with 32 bits after the point.
+const K: u128 = 28623055379020;
+
+// The two lengths from one sample of an axis to its next.
+const PERIOD: u64 = ((1u128 << 64) / 3000) as u64;
+
+const LONGER: u64 = PERIOD + 1;
+
+// 8 ms.
+const SETTLING: u64 = ((8u128 << 64) / 1000) as u64;
+
+// What remains after either.
+const COMMON: Factors = Factors {
+    re: -18490024998952,
+    im: 24289896676780,
+};
+
+// What remains after 8 ms or more.
+const NOTHING: Factors = Factors { re: 0, im: 0 };
+
+// The series before its first term: a sum of 1, and a term of 1.
+const FIRST: Series = Series {
+    re: Q as i64,
+    im: 0,
+    tr: Q as i64,
+    ti: 0,
+};
+
+// A product of the series by 2^48 · n, rounded: by 2^48 and then by n, of 64 bits. `round` of both at once divides by a
+// variable in 128 bits, and a setting that moves takes twice the time.
 fn share(x: i64, angle: u64, n: u64) -> i64
     requires { (unsigned_abs x ≤ 2 ^ 50) × (angle ≤ 2 ^ 44) × (0 < n) × (n ≤ 12) }
     ensures { (result ≡ R.round (x *ℤ pos angle) (D.unit * n)) × (unsigned_abs result ≤ 2 ^ 47) }
 {
-    let a = parts(x);
-    let w = times(
-        a,
-        Signed {
-            negative: false,
-            size: angle,
-        },
-    );
-    exact(w.negative, rounded(w, n * HALF) / n)
+    let p = away(x as i128 * angle as i128, n * (Q / 2));
+    (p / Q as i128) as i64 / n as i64
 }
 
+// The next term of the series, and the sums with it.
 #[tactic(auto, unfolding(crate::specs::Decay::term))]
 fn term(s: Series, angle: u64, n: u64) -> Series
     requires { (unsigned_abs s.tr ≤ 2 ^ 48) × (unsigned_abs s.ti ≤ 2 ^ 48) × (unsigned_abs s.re ≤ 13 * 2 ^ 48) × (unsigned_abs s.im ≤ 13 * 2 ^ 48) × (angle ≤ 2 ^ 44) × (0 < n) × (n ≤ 12) }
     ensures { result ≡ D.term angle n s }
 {
-    let tr = share(0 - s.tr - s.ti, angle, n);
+    let tr = share(-s.tr - s.ti, angle, n);
     let ti = share(s.tr - s.ti, angle, n);
     Series {
         re: s.re + tr,
         im: s.im + ti,
-        tr: tr,
-        ti: ti,
+        tr,
+        ti,
     }
 }
 
+// The sum of the first twelve terms.
 #[tactic(auto, unfolding(crate::specs::Decay::terms))]
 fn series(angle: u64) -> Factors
     requires { angle ≤ 2 ^ 44 }
     ensures { result ≡ D.series angle }
 {
-    let mut s = Series {
-        re: 281474976710656,
-        im: 0,
-        tr: 281474976710656,
-        ti: 0,
-    };
-    for n in 1..13u64 {
-        let t = term(s, angle, n);
-        s = t;
+    let mut s = FIRST;
+    for n in 1..13 {
+        s = term(s, angle, n);
     }
     Factors { re: s.re, im: s.im }
 }
 
+// The square of a complex number.
 #[tactic(auto, unfolding(crate::specs::Decay::squared))]
 fn square(f: Factors) -> Factors
     requires { Below f × Below (D.squared f) }
     ensures { result ≡ D.squared f }
 {
-    let a = parts(f.re);
-    let b = parts(f.im);
-    let d = sum(times(a, a), opposite(times(b, b)));
-    let twice = Signed {
-        negative: a.negative,
-        size: 2 * a.size,
-    };
-    let m = times(twice, b);
+    let (re, im) = (f.re as i128, f.im as i128);
     Factors {
-        re: exact(d.negative, rounded(d, HALF)),
-        im: exact(m.negative, rounded(m, HALF)),
+        re: round(re * re - im * im, Q) as i64,
+        im: round(2 * re * im, Q) as i64,
     }
 }
 
-// An angle that has been halved, and how many times.
-#[derive(Clone, Copy)]
-pub(crate) struct Halving {
-    pub(crate) angle: u64,
-    pub(crate) squares: u8,
-}
-
-// Halved until it is at most a sixteenth.
-fn halved(angle: u64) -> Halving
+// An angle, halved until it is at most a sixteenth, and how many times.
+fn halved(angle: u64) -> (u64, u8)
     requires { angle < 2 ^ 54 }
-    ensures { (D.reduced D.most_halvings angle ≡ iterate result.squares D.squared (D.series result.angle)) × (result.angle ≤ 2 ^ 44) × (result.squares ≤ 10) × (result.squares ≡ 0 ⊎ 2 ^ 43 ≤ result.angle) }
+    ensures { (D.reduced D.most_halvings angle ≡ iterate result.1 D.squared (D.series result.0)) × (result.0 ≤ 2 ^ 44) × (result.1 ≤ 10) × (result.1 ≡ 0 ⊎ 2 ^ 43 ≤ result.0) }
 {
     let mut a = angle;
-    let mut squares: u8 = 0;
-    for _ in 0..10u8 {
-        if 17592186044416 < a {
-            a = a / 2;
-            squares = squares + 1;
-        }
+    let mut squares = 0;
+    while a > Q / 16 {
+        a /= 2;
+        squares += 1;
     }
-    Halving {
-        angle: a,
-        squares: squares,
-    }
+    (a, squares)
 }
 
 // Squared so many times.
@@ -112,60 +115,31 @@ fn raised(f: Factors, squares: u8) -> Factors
 {
     let mut g = f;
     for _ in 0..squares {
-        let h = square(g);
-        g = h;
+        g = square(g);
     }
     g
 }
 
-// The angle of a length below 8 ms.
-fn angle_of(dt: u64) -> u64
-    requires { dt < D.settling }
-    ensures { result ≡ dt * D.rate / D.unit }
-{
-    let w = times(
-        Signed {
-            negative: false,
-            size: dt,
-        },
-        Signed {
-            negative: false,
-            size: 28623055379020,
-        },
-    );
-    rounded(w, 0)
-}
-
-fn nothing() -> Factors
-    ensures { result ≡ D.nothing }
-{
-    Factors { re: 0, im: 0 }
-}
-
+// What remains after so many units of a second.
+#[tactic(auto, using(crate::proofs::Theorems::Bounds::decay_nothing))]
 fn decay(dt: u64) -> Factors
     ensures { result ≡ D.decay dt }
 {
-    if 147573952589676412 <= dt {
-        return nothing();
+    if dt >= SETTLING {
+        return NOTHING;
     }
-    let h = halved(angle_of(dt));
-    raised(series(h.angle), h.squares)
+    let (angle, squares) = halved(((dt as u128 * K) >> 48) as u64);
+    raised(series(angle), squares)
 }
 
-// `COMMON` for the two lengths between samples.
+// What remains after a length of time: that of the two lengths between samples is not computed.
+#[tactic(auto, using(crate::proofs::Theorems::Bounds::decay_nothing, crate::proofs::Theorems::Common::one_of_two, crate::proofs::Theorems::Common::factors_are_decay, crate::proofs::Theorems::Common::factors_common))]
 pub(crate) fn factors(d: Duration) -> Factors
     ensures { result ≡ D.factors (lasts d) }
 {
-    if 0 < d.0 {
-        return nothing();
+    match d {
+        Duration(0, PERIOD..=LONGER) => COMMON,
+        Duration(0, dt) => decay(dt),
+        _ => NOTHING,
     }
-    if 6148914691236517 <= d.1 {
-        if d.1 <= 6148914691236518 {
-            return Factors {
-                re: -18490024998952,
-                im: 24289896676780,
-            };
-        }
-    }
-    decay(d.1)
 }

@@ -2,14 +2,14 @@
 use time::Time;
 
 // The stage of one axis: its moment, and the lagged acceleration and its rate of change in 2^-24 of a millionth of g.
-#[derive(Clone, Copy)]
+#[derive(Clone, Copy, Debug, PartialEq, Eq)]
 pub struct Axis {
     pub at: Time,
     pub output: i64,
     pub velocity: i64,
 }
 
-#[derive(Clone, Copy)]
+#[derive(Clone, Copy, Debug, PartialEq, Eq)]
 pub struct Analog {
     pub x: Axis,
     pub y: Axis,
@@ -17,14 +17,14 @@ pub struct Analog {
 }
 
 // What remains after a step: a complex number with 48 bits after the point.
-#[derive(Clone, Copy)]
+#[derive(Clone, Copy, Debug, PartialEq, Eq)]
 pub struct Factors {
     pub re: i64,
     pub im: i64,
 }
 
 // A sum of terms, and its last term.
-#[derive(Clone, Copy)]
+#[derive(Clone, Copy, Debug, PartialEq, Eq)]
 pub struct Series {
     pub re: i64,
     pub im: i64,

@@ -3,8 +3,7 @@ use Rattle.std.specs.Prelude.{◌≡◌, ℕ, zero, suc, ◌+◌, ◌-◌, ◌*�
 use Rattle.std.proofs.Common.{sym, ap, ◌∙◌, zero-add, suc-add, div-mul-le_self, zero-mul, arith, lit<, ltb-true, lt-ltb, le-ltb}
 use Rattle.std.proofs.Math.Nat.{div-eq_of_lt, lt-div-mul-add, mul-div_cancel_left}
 use Rattle.std.proofs.Math.IntN.{sub_ℕ}
-use Rattle.analog.specs.Round.{round}
-use Rattle.analog.specs.Wide.{signed}
+use Rattle.analog.specs.Round.{round, signed}
 
 -- a difference of naturals below 0
 sub_below : (a b : ℕ) → a < b → sub_ℕ a b ≡ negsuc (b - suc a)

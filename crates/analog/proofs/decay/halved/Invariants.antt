@@ -1,5 +1,8 @@
-use Rattle.analog.proofs.Halvings.{Turned}
+use Rattle.analog.proofs.Halvings.{Halving}
 use Rattle.analog.proofs.decay.halved.Given as goal
 
-abbrev pub invariant-loop : goal.invariant-loop
-invariant-loop l = Turned l.angle l.a l.squares l.counter
+abbrev pub invariant-loop-a : goal.invariant-loop-a
+invariant-loop-a l = Halving l.angle l.a l.squares
+
+abbrev pub decreases-loop-a : goal.decreases-loop-a
+decreases-loop-a l = l.a

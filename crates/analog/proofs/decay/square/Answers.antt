@@ -1,42 +1,62 @@
-use Rattle.std.proofs.Common.{◌≡◌, ◌^◌, pos, ◌-ℤ◌, ◌*ℤ◌, le_of_lt}
-use Rattle.analog.specs.Wide.{number, size, wide}
-use Rattle.analog.specs.Decay.{squared}
-use Rattle.analog.proofs.Sizes.{back, factors_is, twice_is, round_lt, round_word}
+use Rattle.std.proofs.Common.{◌≡◌, ◌^◌, ℤ, pos, ◌-ℤ◌, ◌*ℤ◌, le_of_lt, lit<, lit≤}
+use Rattle.analog.specs.declared.types.Factors.{Factors}
+use Rattle.analog.specs.Round.{round}
+use Rattle.analog.specs.Decay.{unit, squared}
+use Rattle.analog.specs.Theorems.Bounds.{Below}
+use Rattle.analog.proofs.Held.{wide, word, Is, itself, minus, times, fits, read, read_64, fits_64, within, rounded}
 use Rattle.analog.proofs.decay.square.Goals as goal
 
-pub exact-requires : goal.exact-requires
-unfolding squared
-exact-requires c =
-    let f = c.args.f in
-    let p = c.requires in
-    let d = c.sum-d.result in
-    let a : number c.parts-a.result ≡ f.re = rw (back f.re (2 ^ 56) (le_of_lt p.0.0) tt) at c.parts-a.ensures.0 in
-    let b : number c.parts-b.result ≡ f.im = rw (back f.im (2 ^ 56) (le_of_lt p.0.1) tt) at c.parts-b.ensures.0 in
-    let e : wide d ≡ f.re *ℤ f.re -ℤ f.im *ℤ f.im = rw (c.sum-d.ensures.0, c.opposite.ensures.0, c.times-2.ensures.0, c.times.ensures.0, a, b) in
-    round_lt d.negative (size d) c.rounded.result (f.re *ℤ f.re -ℤ f.im *ℤ f.im) e p.1.0 c.rounded.ensures
+module _ (f : Factors) (p : Below f) where
+  re : Is (wide (word f.re)) f.re (2 ^ 56)
+  re = read (read_64 (itself f.re (2 ^ 56) (le_of_lt p.0)) tt) tt
 
-pub exact-requires-2 : goal.exact-requires-2
-unfolding squared
-exact-requires-2 c =
-    let f = c.args.f in
-    let p = c.requires in
-    let m = c.times-m.result in
-    let a : number c.parts-a.result ≡ f.re = rw (back f.re (2 ^ 56) (le_of_lt p.0.0) tt) at c.parts-a.ensures.0 in
-    let b : number c.parts-b.result ≡ f.im = rw (back f.im (2 ^ 56) (le_of_lt p.0.1) tt) at c.parts-b.ensures.0 in
-    let e : wide m ≡ pos 2 *ℤ f.re *ℤ f.im = rw (c.times-m.ensures.0, twice_is c.parts-a.result.negative c.parts-a.result.size, a, b) in
-    round_lt m.negative (size m) c.rounded-2.result (pos 2 *ℤ f.re *ℤ f.im) e p.1.1 c.rounded-2.ensures
+  im : Is (wide (word f.im)) f.im (2 ^ 56)
+  im = read (read_64 (itself f.im (2 ^ 56) (le_of_lt p.1)) tt) tt
+
+  -- the two dividends
+  difference : Is (wide (wide (word f.re) *ℤ wide (word f.re)) -ℤ wide (wide (word f.im) *ℤ wide (word f.im))) (f.re *ℤ f.re -ℤ f.im *ℤ f.im) (2 ^ 113)
+  difference = minus (read (times re re) tt) (read (times im im) tt)
+
+  two : Is (pos 2 *ℤ wide (word f.re)) (pos 2 *ℤ f.re) (2 ^ 57)
+  two = times (itself (pos 2) 2 (lit≤ tt)) re
+
+  twice : Is (wide (pos 2 *ℤ wide (word f.re)) *ℤ wide (word f.im)) (pos 2 *ℤ f.re *ℤ f.im) (2 ^ 113)
+  twice = times (read two tt) im
+
+  -- what `round` returns of them
+  module _ (q : Below (squared f)) (r : ℤ) where
+    first : r ≡ round (wide (wide (wide (word f.re) *ℤ wide (word f.re)) -ℤ wide (wide (word f.im) *ℤ wide (word f.im)))) unit → Is r (squared f).re (2 ^ 56)
+    unfolding squared
+    first e = let h = rounded unit r e (lit< tt) (read difference tt) in record { is = h.is; le = le_of_lt q.0 }
+
+    second : r ≡ round (wide (wide (pos 2 *ℤ wide (word f.re)) *ℤ wide (word f.im))) unit → Is r (squared f).im (2 ^ 56)
+    unfolding squared
+    second e = let h = rounded unit r e (lit< tt) (read twice tt) in record { is = h.is; le = le_of_lt q.1 }
+
+pub overflow_sub-re : goal.overflow_sub-re
+overflow_sub-re c = fits (difference c.args.f c.requires.0) tt
+
+pub round-requires : goal.round-requires
+round-requires c = (within (2 ^ 126) (read (difference c.args.f c.requires.0) tt) tt, lit< tt)
+
+pub overflow_cast-result : goal.overflow_cast-result
+overflow_cast-result c = fits_64 (read (first c.args.f c.requires.0 c.requires.1 c.round.result c.round.ensures.0) tt) tt
+
+pub overflow_mul-re-2 : goal.overflow_mul-re-2
+overflow_mul-re-2 c = fits (two c.args.f c.requires.0) tt
+
+pub overflow_mul-re-3 : goal.overflow_mul-re-3
+overflow_mul-re-3 c = fits (twice c.args.f c.requires.0) tt
+
+pub round-requires-2 : goal.round-requires-2
+round-requires-2 c = (within (2 ^ 126) (read (twice c.args.f c.requires.0) tt) tt, lit< tt)
+
+pub overflow_cast-result-2 : goal.overflow_cast-result-2
+overflow_cast-result-2 c = fits_64 (read (second c.args.f c.requires.0 c.requires.1 c.round-2.result c.round-2.ensures.0) tt) tt
 
 pub returns : goal.returns
-unfolding squared
 returns c =
-    let f = c.args.f in
-    let p = c.requires in
-    let d = c.sum-d.result in
-    let m = c.times-m.result in
-    let a : number c.parts-a.result ≡ f.re = rw (back f.re (2 ^ 56) (le_of_lt p.0.0) tt) at c.parts-a.ensures.0 in
-    let b : number c.parts-b.result ≡ f.im = rw (back f.im (2 ^ 56) (le_of_lt p.0.1) tt) at c.parts-b.ensures.0 in
-    let e : wide d ≡ f.re *ℤ f.re -ℤ f.im *ℤ f.im = rw (c.sum-d.ensures.0, c.opposite.ensures.0, c.times-2.ensures.0, c.times.ensures.0, a, b) in
-    let g : wide m ≡ pos 2 *ℤ f.re *ℤ f.im = rw (c.times-m.ensures.0, twice_is c.parts-a.result.negative c.parts-a.result.size, a, b) in
-    factors_is
-    (round_word d.negative (size d) c.rounded.result (f.re *ℤ f.re -ℤ f.im *ℤ f.im) e p.1.0 c.rounded.ensures c.exact.result c.exact.ensures)
-    (round_word m.negative (size m) c.rounded-2.result (pos 2 *ℤ f.re *ℤ f.im) g p.1.1 c.rounded-2.ensures c.exact-2.result c.exact-2.ensures)
+    let f = c.args.f in let p = c.requires in
+    let a = read_64 (read (first f p.0 p.1 c.round.result c.round.ensures.0) tt) tt in
+    let b = read_64 (read (second f p.0 p.1 c.round-2.result c.round-2.ensures.0) tt) tt in
+    λ i. record { re = a.is i; im = b.is i }

@@ -1,16 +1,26 @@
-use Rattle.std.proofs.Common.{◌≡◌, ◌*◌, ℤ, pos, ◌+ℤ◌, ◌-ℤ◌, ◌*ℤ◌, neg_ℤ, ap, ◌∙◌}
+use Rattle.std.proofs.Common.{◌*◌, ◌^◌, ℤ, pos, ◌+ℤ◌, ◌*ℤ◌, ap, ◌∙◌}
 use Rattle.analog.specs.Round.{round}
 use Rattle.analog.specs.Decay.{unit, term}
-use Rattle.analog.proofs.Sizes.{series_is, down_word, up_word, grown_word, term_back}
+use Rattle.analog.proofs.Held.{itself, opposite, plus, minus, read_64}
 use Rattle.analog.proofs.decay.term.Goals as goal
 
 pub returns : goal.returns
 unfolding term
-returns c = let s = c.args.s in let p = c.requires in let x = c.args in
-    let t = c.share-tr.result in let u = c.share-ti.result in
-    let e : t ≡ round ((neg_ℤ s.tr -ℤ s.ti) *ℤ pos x.angle) (unit * x.n) = rw (down_word s.tr s.ti p.0 p.1) at c.share-tr.ensures.0 in
-    let f : u ≡ round ((s.tr -ℤ s.ti) *ℤ pos x.angle) (unit * x.n) = rw (up_word s.tr s.ti p.0 p.1) at c.share-ti.ensures.0 in
-    series_is (grown_word s.re t p.2 c.share-tr.ensures.1 ∙ ap (λ (z : ℤ). s.re +ℤ z) e)
-    (grown_word s.im u p.3 c.share-ti.ensures.1 ∙ ap (λ (z : ℤ). s.im +ℤ z) f)
-    (term_back s.re t p.2 c.share-tr.ensures.1 ∙ e)
-    (term_back s.im u p.3 c.share-ti.ensures.1 ∙ f)
+returns c =
+    let s = c.args.s in let p = c.requires in let x = c.args in
+    let tr = itself s.tr (2 ^ 48) p.0 in
+    let ti = read_64 (itself s.ti (2 ^ 48) p.1) tt in
+    let down = read_64 (minus (read_64 (opposite (read_64 tr tt)) tt) ti) tt in
+    let up = read_64 (minus (read_64 tr tt) ti) tt in
+    let t = itself c.share-tr.result (2 ^ 47) c.share-tr.ensures.1 in
+    let u = itself c.share-ti.result (2 ^ 47) c.share-ti.ensures.1 in
+    let e = c.share-tr.ensures.0 ∙ ap (λ (z : ℤ). round (z *ℤ pos x.angle) (unit * x.n)) down.is in
+    let f = c.share-ti.ensures.0 ∙ ap (λ (z : ℤ). round (z *ℤ pos x.angle) (unit * x.n)) up.is in
+    let re = read_64 (plus (read_64 (itself s.re (13 * 2 ^ 48) p.2) tt) (read_64 t tt)) tt in
+    let im = read_64 (plus (read_64 (itself s.im (13 * 2 ^ 48) p.3) tt) (read_64 u tt)) tt in
+    λ i. record {
+      re = (re.is ∙ ap (λ (z : ℤ). s.re +ℤ z) e) i;
+      im = (im.is ∙ ap (λ (z : ℤ). s.im +ℤ z) f) i;
+      tr = ((read_64 t tt).is ∙ e) i;
+      ti = ((read_64 u tt).is ∙ f) i;
+    }
