@@ -28,13 +28,13 @@ abbrev pub default : State
 default = record { phase = P.Idle; pointer = 0; bits = 0; shift = 0; low = false }
 
 abbrev pub with_phase : State → Phase → State
-with_phase s p = record { phase = p; pointer = s.pointer; bits = s.bits; shift = s.shift; low = s.low }
+with_phase s p = record s { phase = p }
 
 abbrev pub with_low : State → Phase → Bool → State
-with_low s p l = record { phase = p; pointer = s.pointer; bits = s.bits; shift = s.shift; low = l }
+with_low s p l = record s { phase = p; low = l }
 
 abbrev pub with_pointer : State → Phase → ℕ → State
-with_pointer s p n = record { phase = p; pointer = n; bits = s.bits; shift = s.shift; low = s.low }
+with_pointer s p n = record s { phase = p; pointer = n }
 
 abbrev pub and_do : State → Action → Step
 and_do s a = record { state = s; action = a }
@@ -67,7 +67,7 @@ within_byte (P.MasterAcknowledge a) bits e = false
 
 -- a bit received
 abbrev pub bit_received : State → Edge → Step
-bit_received s e = and_do (record { phase = s.phase; pointer = s.pointer; bits = s.bits + 1; shift = shifted_in s.shift (data_at e); low = s.low }) A.Nothing
+bit_received s e = and_do (record s { bits = s.bits + 1; shift = shifted_in s.shift (data_at e) }) A.Nothing
 
 -- the register pointer after bit n was taken: past the last bit it moves on modulo 128
 unfoldable pub pointer_after : (pointer n : ℕ) → ℕ

@@ -8,101 +8,58 @@ use crate::types::{Edge, Levels};
 fn data_moves(before: Levels, after: Levels) -> bool
     ensures { result ≡ B.data_moves before after }
 {
-    if before.scl {
-        if after.scl {
-            if before.sda {
-                return !after.sda;
-            }
-            return after.sda;
-        }
-    }
-    false
+    before.scl && after.scl && before.sda != after.sda
 }
 
 // The event that takes the lines from `before` to `after`.
-#[tactic(auto, unfolding(crate::specs::Bus::edge))]
+#[tactic(auto, unfolding(crate::specs::Bus::data_moves, crate::specs::Bus::edge))]
 pub fn edge(before: Levels, after: Levels) -> Edge
     ensures { result ≡ B.edge before after }
 {
     if data_moves(before, after) {
-        if after.sda {
-            return Edge::Stop;
-        }
-        return Edge::Start;
+        return if after.sda { Edge::Stop } else { Edge::Start };
     }
-    if before.scl {
-        if after.scl {
-            return Edge::Still;
-        }
-        return Edge::Fall;
-    }
-    if after.scl {
-        return Edge::Rise(after.sda);
-    }
-    Edge::Still
-}
-
-#[tactic(auto, unfolding(crate::specs::Bus::is_condition))]
-pub fn is_condition(e: Edge) -> bool
-    ensures { result ≡ B.is_condition e }
-{
-    match e {
-        Edge::Still => false,
-        Edge::Start => true,
-        Edge::Stop => true,
-        Edge::Rise(_) => false,
-        Edge::Fall => false,
+    match (before.scl, after.scl) {
+        (false, true) => Edge::Rise(after.sda),
+        (true, false) => Edge::Fall,
+        _ => Edge::Still,
     }
 }
 
-#[tactic(auto, unfolding(crate::specs::Bus::is_start))]
-pub fn is_start(e: Edge) -> bool
-    ensures { result ≡ B.is_start e }
-{
-    match e {
-        Edge::Still => false,
-        Edge::Start => true,
-        Edge::Stop => false,
-        Edge::Rise(_) => false,
-        Edge::Fall => false,
+impl Edge {
+    #[tactic(auto, unfolding(crate::specs::Bus::is_condition))]
+    pub fn is_condition(self) -> bool
+        ensures { result ≡ B.is_condition self }
+    {
+        matches!(self, Edge::Start | Edge::Stop)
     }
-}
 
-#[tactic(auto, unfolding(crate::specs::Bus::is_rise))]
-pub fn is_rise(e: Edge) -> bool
-    ensures { result ≡ B.is_rise e }
-{
-    match e {
-        Edge::Still => false,
-        Edge::Start => false,
-        Edge::Stop => false,
-        Edge::Rise(_) => true,
-        Edge::Fall => false,
+    #[tactic(auto, unfolding(crate::specs::Bus::is_start))]
+    pub fn is_start(self) -> bool
+        ensures { result ≡ B.is_start self }
+    {
+        matches!(self, Edge::Start)
     }
-}
 
-#[tactic(auto, unfolding(crate::specs::Bus::is_fall))]
-pub fn is_fall(e: Edge) -> bool
-    ensures { result ≡ B.is_fall e }
-{
-    match e {
-        Edge::Still => false,
-        Edge::Start => false,
-        Edge::Stop => false,
-        Edge::Rise(_) => false,
-        Edge::Fall => true,
+    #[tactic(auto, unfolding(crate::specs::Bus::is_rise))]
+    pub fn is_rise(self) -> bool
+        ensures { result ≡ B.is_rise self }
+    {
+        matches!(self, Edge::Rise(_))
     }
-}
 
-#[tactic(auto, unfolding(crate::specs::Bus::data_at))]
-pub fn data_at(e: Edge) -> bool
-    ensures { result ≡ B.data_at e }
-{
-    match e {
-        Edge::Still => false,
-        Edge::Start => false,
-        Edge::Stop => false,
-        Edge::Rise(d) => d,
-        Edge::Fall => false,
+    #[tactic(auto, unfolding(crate::specs::Bus::is_fall))]
+    pub fn is_fall(self) -> bool
+        ensures { result ≡ B.is_fall self }
+    {
+        matches!(self, Edge::Fall)
+    }
+
+    // The data level at a rise.
+    #[tactic(auto, unfolding(crate::specs::Bus::data_at))]
+    pub fn data_at(self) -> bool
+        ensures { result ≡ B.data_at self }
+    {
+        matches!(self, Edge::Rise(true))
     }
 }

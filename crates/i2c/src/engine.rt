@@ -3,30 +3,15 @@ ghost use Rattle.std.specs.Prelude.{◌≡◌, true, not, ◌&&◌, ◌<◌};
 ghost use Rattle.i2c.specs.Bus as B;
 ghost use Rattle.i2c.specs.Engine as E;
 
-use crate::edges::{data_at, edge, is_condition, is_fall, is_rise, is_start};
+use crate::edges::edge;
 use crate::types::{Action, Answer, Edge, Following, Levels, Phase, Receive, State, Step};
 use laws::{sent_bit, shifted_in};
 
-#[tactic(auto, unfolding(crate::specs::Engine::acknowledging))]
-fn acknowledging(phase: Phase) -> bool
-    ensures { result ≡ E.acknowledging phase }
-{
-    match phase {
-        Phase::Idle => false,
-        Phase::Receive(_) => false,
-        Phase::Acknowledge(_, _) => true,
-        Phase::Read(_) => false,
-        Phase::MasterAcknowledge(_) => false,
-    }
-}
-
-fn is_either(e: Edge) -> bool
+// An edge of the clock.
+fn clocks(e: Edge) -> bool
     ensures { result ≡ E.clocks e }
 {
-    if is_rise(e) {
-        return true;
-    }
-    is_fall(e)
+    e.is_rise() || e.is_fall()
 }
 
 #[tactic(auto, unfolding(crate::specs::Engine::within_byte))]
@@ -34,11 +19,9 @@ fn within_byte(phase: Phase, bits: u8, e: Edge) -> bool
     ensures { result ≡ E.within_byte phase bits e }
 {
     match phase {
-        Phase::Idle => false,
-        Phase::Receive(_) => is_rise(e) && bits < 7,
-        Phase::Acknowledge(_, _) => false,
-        Phase::Read(n) => is_either(e) && n < 8,
-        Phase::MasterAcknowledge(_) => false,
+        Phase::Receive(_) => e.is_rise() && bits < 7,
+        Phase::Read(n) => clocks(e) && n < 8,
+        _ => false,
     }
 }
 
@@ -47,11 +30,9 @@ fn at_ninth(phase: Phase, e: Edge) -> bool
     ensures { result ≡ E.at_ninth phase e }
 {
     match phase {
-        Phase::Idle => false,
-        Phase::Receive(_) => false,
-        Phase::Acknowledge(_, _) => is_either(e),
-        Phase::Read(n) => is_fall(e) && 8 <= n,
-        Phase::MasterAcknowledge(_) => is_either(e),
+        Phase::Acknowledge(_, _) | Phase::MasterAcknowledge(_) => clocks(e),
+        Phase::Read(n) => e.is_fall() && 8 <= n,
+        _ => false,
     }
 }
 
@@ -59,23 +40,15 @@ fn at_ninth(phase: Phase, e: Edge) -> bool
 fn completes(phase: Phase, e: Edge) -> bool
     ensures { result ≡ E.completes phase e }
 {
-    match phase {
-        Phase::Idle => false,
-        Phase::Receive(_) => is_rise(e),
-        Phase::Acknowledge(_, _) => false,
-        Phase::Read(_) => false,
-        Phase::MasterAcknowledge(_) => false,
-    }
+    matches!(phase, Phase::Receive(_)) && e.is_rise()
 }
 
 // Quiet outside an acknowledge.
+#[tactic(auto, unfolding(crate::specs::Engine::acknowledging))]
 fn silenced(quiet: bool, phase: Phase) -> bool
     ensures { result ≡ quiet && not (E.acknowledging phase) }
 {
-    if quiet {
-        return !acknowledging(phase);
-    }
-    false
+    quiet && !matches!(phase, Phase::Acknowledge(_, _))
 }
 
 // The register pointer after bit n was taken: past the last it moves on modulo 128.
@@ -84,9 +57,10 @@ fn pointer_after(pointer: u8, n: u8) -> u8
     ensures { result ≡ E.pointer_after pointer n }
 {
     if n == 7 {
-        return (pointer % 128 + 1) % 128;
+        pointer.wrapping_add(1) % 128
+    } else {
+        pointer
     }
-    pointer
 }
 
 // What the master's level at the ninth rise says.
@@ -95,69 +69,31 @@ fn answer(sda: bool) -> Answer
     ensures { result ≡ E.answer sda }
 {
     if sda {
-        return Answer::NotAcknowledge;
-    }
-    Answer::Acknowledge
-}
-
-#[tactic(auto, unfolding(crate::specs::Engine::uses_as))]
-fn uses_as(k: Receive, bits: u8) -> bool
-    ensures { result ≡ E.uses_as k bits }
-{
-    match k {
-        Receive::Address => false,
-        Receive::Control => false,
-        Receive::Data => 7 <= bits,
+        Answer::NotAcknowledge
+    } else {
+        Answer::Acknowledge
     }
 }
 
-#[tactic(auto, unfolding(crate::specs::Engine::uses_at_rise))]
+#[tactic(auto, unfolding(crate::specs::Engine::uses_as, crate::specs::Engine::uses_at_rise))]
 fn uses_at_rise(phase: Phase, bits: u8) -> bool
     ensures { result ≡ E.uses_at_rise phase bits }
 {
     match phase {
-        Phase::Idle => false,
-        Phase::Receive(k) => uses_as(k, bits),
-        Phase::Acknowledge(_, _) => false,
+        Phase::Receive(Receive::Data) => 7 <= bits,
         Phase::Read(n) => n == 0,
-        Phase::MasterAcknowledge(_) => false,
+        _ => false,
     }
 }
 
-#[tactic(auto, unfolding(crate::specs::Engine::reads_next))]
-fn reads_next(f: Following) -> bool
-    ensures { result ≡ E.reads_next f }
-{
-    match f {
-        Following::Control => false,
-        Following::Data => false,
-        Following::Read => true,
-        Following::Idle => false,
-    }
-}
-
-#[tactic(auto, unfolding(crate::specs::Engine::goes_on))]
-fn goes_on(a: Answer) -> bool
-    ensures { result ≡ E.goes_on a }
-{
-    match a {
-        Answer::Unseen => false,
-        Answer::Acknowledge => true,
-        Answer::NotAcknowledge => false,
-    }
-}
-
-#[tactic(auto, unfolding(crate::specs::Engine::uses_at_fall))]
+#[tactic(auto, unfolding(crate::specs::Engine::reads_next, crate::specs::Engine::goes_on, crate::specs::Engine::uses_at_fall))]
 fn uses_at_fall(phase: Phase) -> bool
     ensures { result ≡ E.uses_at_fall phase }
 {
-    match phase {
-        Phase::Idle => false,
-        Phase::Receive(_) => false,
-        Phase::Acknowledge(f, n) => n == 2 && reads_next(f),
-        Phase::Read(_) => false,
-        Phase::MasterAcknowledge(a) => goes_on(a),
-    }
+    matches!(
+        phase,
+        Phase::Acknowledge(Following::Read, 2) | Phase::MasterAcknowledge(Answer::Acknowledge)
+    )
 }
 
 impl State {
@@ -179,47 +115,8 @@ impl State {
         ensures { result ≡ E.aborted self }
     {
         State {
-            phase: Phase::Idle,
             pointer: self.pointer,
-            bits: 0,
-            shift: 0,
-            low: false,
-        }
-    }
-
-    fn with_phase(self, phase: Phase) -> State
-        ensures { result ≡ E.with_phase self phase }
-    {
-        State {
-            phase: phase,
-            pointer: self.pointer,
-            bits: self.bits,
-            shift: self.shift,
-            low: self.low,
-        }
-    }
-
-    fn with_low(self, phase: Phase, low: bool) -> State
-        ensures { result ≡ E.with_low self phase low }
-    {
-        State {
-            phase: phase,
-            pointer: self.pointer,
-            bits: self.bits,
-            shift: self.shift,
-            low: low,
-        }
-    }
-
-    fn with_pointer(self, phase: Phase, pointer: u8) -> State
-        ensures { result ≡ E.with_pointer self phase pointer }
-    {
-        State {
-            phase: phase,
-            pointer: pointer,
-            bits: self.bits,
-            shift: self.shift,
-            low: self.low,
+            ..State::new()
         }
     }
 
@@ -228,23 +125,32 @@ impl State {
     {
         Step {
             state: self,
-            action: action,
+            action,
         }
+    }
+
+    fn with_phase(self, phase: Phase) -> State
+        ensures { result ≡ E.with_phase self phase }
+    {
+        State { phase, ..self }
+    }
+
+    fn with_low(self, phase: Phase, low: bool) -> State
+        ensures { result ≡ E.with_low self phase low }
+    {
+        State { phase, low, ..self }
     }
 
     #[tactic(auto, unfolding(crate::specs::Engine::conditioned))]
     fn conditioned(self, e: Edge, quiet: bool) -> Step
         ensures { result ≡ E.conditioned self e quiet }
     {
-        let s = self.abort();
-        if quiet {
-            return s.and_do(Action::Drop);
-        }
-        if is_start(e) {
-            let t = s.with_phase(Phase::Receive(Receive::Address));
-            return t.and_do(Action::Drop);
-        }
-        s.and_do(Action::Drop)
+        let state = if !quiet && e.is_start() {
+            self.abort().with_phase(Phase::Receive(Receive::Address))
+        } else {
+            self.abort()
+        };
+        state.and_do(Action::Drop)
     }
 
     // A bit of a byte is received.
@@ -252,15 +158,12 @@ impl State {
         requires { self.bits < 7 }
         ensures { result ≡ E.bit_received self e }
     {
-        let phase = self.phase;
-        let t = State {
-            phase: phase,
-            pointer: self.pointer,
+        let state = State {
             bits: self.bits + 1,
-            shift: shifted_in(self.shift, data_at(e)),
-            low: self.low,
+            shift: shifted_in(self.shift, e.data_at()),
+            ..self
         };
-        t.and_do(Action::Nothing)
+        state.and_do(Action::Nothing)
     }
 
     // The master takes bit n of the byte being sent.
@@ -269,21 +172,27 @@ impl State {
         requires { n < 8 }
         ensures { result ≡ E.bit_taken self n }
     {
-        let pointer = self.pointer;
-        let t = self.with_pointer(Phase::Read(n + 1), pointer_after(pointer, n));
-        if n == 0 {
-            return t.and_do(Action::ReadBegan(pointer));
-        }
-        t.and_do(Action::Nothing)
+        let state = State {
+            phase: Phase::Read(n + 1),
+            pointer: pointer_after(self.pointer, n),
+            ..self
+        };
+        state.and_do(if n == 0 {
+            Action::ReadBegan(self.pointer)
+        } else {
+            Action::Nothing
+        })
     }
 
     // The pin shows bit n of the byte being sent.
     fn bit_shown(self, n: u8, sent: u8) -> Step
         ensures { result ≡ E.bit_shown self n sent }
     {
-        let phase = self.phase;
-        let t = self.with_low(phase, !sent_bit(sent, n));
-        t.and_do(Action::Nothing)
+        let state = State {
+            low: !sent_bit(sent, n),
+            ..self
+        };
+        state.and_do(Action::Nothing)
     }
 
     #[tactic(auto, unfolding(crate::specs::Engine::within_byte, crate::specs::Engine::byte_step))]
@@ -291,18 +200,11 @@ impl State {
         requires { E.within_byte self.phase self.bits e ≡ true }
         ensures { result ≡ E.byte_step self.phase self e sent }
     {
-        let phase = self.phase;
-        match phase {
-            Phase::Idle => self.and_do(Action::Nothing),
+        match self.phase {
             Phase::Receive(_) => self.bit_received(e),
-            Phase::Acknowledge(_, _) => self.and_do(Action::Nothing),
-            Phase::Read(n) => {
-                if is_rise(e) {
-                    return self.bit_taken(n);
-                }
-                self.bit_shown(n, sent)
-            }
-            Phase::MasterAcknowledge(_) => self.and_do(Action::Nothing),
+            Phase::Read(n) if e.is_rise() => self.bit_taken(n),
+            Phase::Read(n) => self.bit_shown(n, sent),
+            _ => self.and_do(Action::Nothing),
         }
     }
 
@@ -311,43 +213,31 @@ impl State {
     fn followed(self, f: Following) -> Step
         ensures { result ≡ E.followed self f }
     {
-        match f {
-            Following::Control => {
-                let t = self.with_low(Phase::Receive(Receive::Control), false);
-                t.and_do(Action::Nothing)
-            }
-            Following::Data => {
-                let t = self.with_low(Phase::Receive(Receive::Data), false);
-                t.and_do(Action::Nothing)
-            }
-            Following::Read => {
-                let phase = self.phase;
-                let t = self.with_low(phase, false);
-                t.and_do(Action::Launch(self.pointer))
-            }
-            Following::Idle => {
-                let t = self.with_low(Phase::Idle, false);
-                t.and_do(Action::Nothing)
-            }
-        }
+        let (phase, action) = match f {
+            Following::Control => (Phase::Receive(Receive::Control), Action::Nothing),
+            Following::Data => (Phase::Receive(Receive::Data), Action::Nothing),
+            Following::Read => (self.phase, Action::Launch(self.pointer)),
+            Following::Idle => (Phase::Idle, Action::Nothing),
+        };
+        self.with_low(phase, false).and_do(action)
     }
 
     #[tactic(auto, unfolding(crate::specs::Engine::acknowledge_step))]
     fn acknowledge_step(self, f: Following, n: u8, e: Edge) -> Step
         ensures { result ≡ E.acknowledge_step self f n e }
     {
-        if is_rise(e) {
-            let t = self.with_phase(Phase::Acknowledge(f, 2));
-            return t.and_do(Action::Nothing);
+        if e.is_rise() {
+            return self
+                .with_phase(Phase::Acknowledge(f, 2))
+                .and_do(Action::Nothing);
         }
-        if n == 0 {
-            let t = self.with_low(Phase::Acknowledge(f, 1), true);
-            return t.and_do(Action::Nothing);
+        match n {
+            0 => self
+                .with_low(Phase::Acknowledge(f, 1), true)
+                .and_do(Action::Nothing),
+            2 => self.followed(f),
+            _ => self.and_do(Action::Nothing),
         }
-        if n == 2 {
-            return self.followed(f);
-        }
-        self.and_do(Action::Nothing)
     }
 
     // The master's acknowledge is over.
@@ -358,10 +248,7 @@ impl State {
         match a {
             Answer::Unseen => self.and_do(Action::Nothing),
             Answer::Acknowledge => self.and_do(Action::Launch(self.pointer)),
-            Answer::NotAcknowledge => {
-                let t = self.abort();
-                t.and_do(Action::Nothing)
-            }
+            Answer::NotAcknowledge => self.abort().and_do(Action::Nothing),
         }
     }
 
@@ -369,9 +256,9 @@ impl State {
     fn answer_step(self, a: Answer, e: Edge) -> Step
         ensures { result ≡ E.answer_step self a e }
     {
-        if is_rise(e) {
-            let t = self.with_phase(Phase::MasterAcknowledge(answer(data_at(e))));
-            return t.and_do(Action::Nothing);
+        if e.is_rise() {
+            let phase = Phase::MasterAcknowledge(answer(e.data_at()));
+            return self.with_phase(phase).and_do(Action::Nothing);
         }
         self.answered(a)
     }
@@ -380,16 +267,13 @@ impl State {
     fn ninth_step(self, e: Edge) -> Step
         ensures { result ≡ E.ninth_step self.phase self e }
     {
-        let phase = self.phase;
-        match phase {
-            Phase::Idle => self.and_do(Action::Nothing),
-            Phase::Receive(_) => self.and_do(Action::Nothing),
+        match self.phase {
             Phase::Acknowledge(f, n) => self.acknowledge_step(f, n, e),
-            Phase::Read(_) => {
-                let t = self.with_low(Phase::MasterAcknowledge(Answer::Unseen), false);
-                t.and_do(Action::Nothing)
-            }
+            Phase::Read(_) => self
+                .with_low(Phase::MasterAcknowledge(Answer::Unseen), false)
+                .and_do(Action::Nothing),
             Phase::MasterAcknowledge(a) => self.answer_step(a, e),
+            _ => self.and_do(Action::Nothing),
         }
     }
 
@@ -397,42 +281,40 @@ impl State {
     fn acknowledging_with(self, f: Following) -> State
         ensures { result ≡ E.acknowledging_with self f }
     {
-        let t = self.abort();
-        t.with_phase(Phase::Acknowledge(f, 0))
+        self.abort().with_phase(Phase::Acknowledge(f, 0))
     }
 
     #[tactic(auto, unfolding(crate::specs::Engine::addressed))]
     fn addressed(self, byte: u8) -> Step
         ensures { result ≡ E.addressed self byte }
     {
-        if byte == 0x70 {
-            let t = self.acknowledging_with(Following::Control);
-            return t.and_do(Action::Nothing);
-        }
-        if byte == 0x71 {
-            let t = self.acknowledging_with(Following::Read);
-            return t.and_do(Action::Nothing);
-        }
-        let t = self.abort();
-        t.and_do(Action::Nothing)
+        let state = match byte {
+            0x70 => self.acknowledging_with(Following::Control),
+            0x71 => self.acknowledging_with(Following::Read),
+            _ => self.abort(),
+        };
+        state.and_do(Action::Nothing)
+    }
+
+    // A register byte sets the pointer.
+    fn pointed(self, byte: u8) -> Step
+        ensures { result ≡ E.pointed self byte }
+    {
+        let state = State {
+            pointer: byte % 128,
+            ..self.acknowledging_with(Following::Data)
+        };
+        state.and_do(Action::Nothing)
     }
 
     #[tactic(auto, unfolding(crate::specs::Engine::received))]
     fn received(self, k: Receive, byte: u8) -> Step
         ensures { result ≡ E.received k self byte }
     {
-        let pointer = self.pointer;
         match k {
             Receive::Address => self.addressed(byte),
-            Receive::Control => {
-                let t = self.abort();
-                let u = t.with_pointer(Phase::Acknowledge(Following::Data, 0), byte % 128);
-                u.and_do(Action::Nothing)
-            }
-            Receive::Data => {
-                let t = self.abort();
-                t.and_do(Action::Write(pointer, byte))
-            }
+            Receive::Control => self.pointed(byte),
+            Receive::Data => self.abort().and_do(Action::Write(self.pointer, byte)),
         }
     }
 
@@ -440,13 +322,9 @@ impl State {
     fn completed(self, e: Edge) -> Step
         ensures { result ≡ E.completed self.phase self e }
     {
-        let phase = self.phase;
-        match phase {
-            Phase::Idle => self.and_do(Action::Nothing),
-            Phase::Receive(k) => self.received(k, shifted_in(self.shift, data_at(e))),
-            Phase::Acknowledge(_, _) => self.and_do(Action::Nothing),
-            Phase::Read(_) => self.and_do(Action::Nothing),
-            Phase::MasterAcknowledge(_) => self.and_do(Action::Nothing),
+        match self.phase {
+            Phase::Receive(k) => self.received(k, shifted_in(self.shift, e.data_at())),
+            _ => self.and_do(Action::Nothing),
         }
     }
 
@@ -455,24 +333,19 @@ impl State {
     pub fn stepped(self, e: Edge, quiet: bool, sent: u8) -> Step
         ensures { result ≡ E.step self e quiet sent }
     {
-        let phase = self.phase;
-        if is_condition(e) {
-            return self.conditioned(e, quiet);
+        if e.is_condition() {
+            self.conditioned(e, quiet)
+        } else if silenced(quiet, self.phase) {
+            self.abort().and_do(Action::Nothing)
+        } else if within_byte(self.phase, self.bits, e) {
+            self.byte_step(e, sent)
+        } else if at_ninth(self.phase, e) {
+            self.ninth_step(e)
+        } else if completes(self.phase, e) {
+            self.completed(e)
+        } else {
+            self.and_do(Action::Nothing)
         }
-        if silenced(quiet, phase) {
-            let t = self.abort();
-            return t.and_do(Action::Nothing);
-        }
-        if within_byte(phase, self.bits, e) {
-            return self.byte_step(e, sent);
-        }
-        if at_ninth(phase, e) {
-            return self.ninth_step(e);
-        }
-        if completes(phase, e) {
-            return self.completed(e);
-        }
-        self.and_do(Action::Nothing)
     }
 
     // One report of the lines. `sent` is the byte being sent, ff where `peek` withholds it.
@@ -486,10 +359,12 @@ impl State {
     pub fn written(self, quiet: bool) -> State
         ensures { result ≡ E.written self quiet }
     {
-        if quiet {
-            return self.with_phase(Phase::Acknowledge(Following::Idle, 0));
-        }
-        self.with_phase(Phase::Acknowledge(Following::Control, 0))
+        let following = if quiet {
+            Following::Idle
+        } else {
+            Following::Control
+        };
+        self.with_phase(Phase::Acknowledge(following, 0))
     }
 
     // After the byte to send was fetched: its first bit is shown.
@@ -504,14 +379,11 @@ impl State {
     pub fn consumes(self, e: Edge) -> bool
         ensures { result ≡ E.consumes_conversion self e }
     {
-        let phase = self.phase;
-        if is_rise(e) {
-            return uses_at_rise(phase, self.bits);
+        if e.is_rise() {
+            uses_at_rise(self.phase, self.bits)
+        } else {
+            e.is_fall() && uses_at_fall(self.phase)
         }
-        if is_fall(e) {
-            return uses_at_fall(phase);
-        }
-        false
     }
 
     pub fn consumes_conversion(self, before: Levels, after: Levels) -> bool

@@ -1,14 +1,14 @@
 // The types of the I2C engine. Names are the Rust's (bma150/i2c.rs), but for what it writes as an `Option` or an array.
 
 // The two lines, true where high: the clock (the part's SCK) and the data (its SDI).
-#[derive(Clone, Copy, PartialEq, Eq)]
+#[derive(Clone, Copy, Debug, PartialEq, Eq)]
 pub struct Levels {
     pub scl: bool,
     pub sda: bool,
 }
 
 // What a report of the lines is to UM10204: the two conditions, the clock's edges, or no event. A rise has the data level.
-#[derive(Clone, Copy)]
+#[derive(Clone, Copy, Debug, PartialEq, Eq)]
 pub enum Edge {
     Still,
     Start,
@@ -18,7 +18,7 @@ pub enum Edge {
 }
 
 // What the byte being received is.
-#[derive(Clone, Copy)]
+#[derive(Clone, Copy, Debug, PartialEq, Eq)]
 pub enum Receive {
     Address,
     Control,
@@ -26,7 +26,7 @@ pub enum Receive {
 }
 
 // What follows an acknowledge of the sensor's.
-#[derive(Clone, Copy)]
+#[derive(Clone, Copy, Debug, PartialEq, Eq)]
 pub enum Following {
     Control,
     Data,
@@ -34,8 +34,9 @@ pub enum Following {
     Idle,
 }
 
-// What the master answered to a byte that it read, once the ninth clock has risen.
-#[derive(Clone, Copy)]
+// What the master answered to a byte that it read, once the ninth clock has risen: three named cases, plainer than the Rust's
+// `Option<bool>`.
+#[derive(Clone, Copy, Debug, PartialEq, Eq)]
 pub enum Answer {
     Unseen,
     Acknowledge,
@@ -43,7 +44,7 @@ pub enum Answer {
 }
 
 // Acknowledge: 0 the eighth rise has passed, 1 the pin is held low, 2 the ninth rise has passed. Read: the bits taken.
-#[derive(Clone, Copy)]
+#[derive(Clone, Copy, Debug, PartialEq, Eq)]
 pub enum Phase {
     Idle,
     Receive(Receive),
@@ -52,7 +53,7 @@ pub enum Phase {
     MasterAcknowledge(Answer),
 }
 
-#[derive(Clone, Copy)]
+#[derive(Clone, Copy, Debug, PartialEq, Eq)]
 pub struct State {
     pub phase: Phase,
     pub pointer: u8,
@@ -63,7 +64,7 @@ pub struct State {
 
 // What the sensor has to do: nothing, drop the byte being sent, write a register, fetch and send a register's byte, note
 // that a register's byte is being read.
-#[derive(Clone, Copy)]
+#[derive(Clone, Copy, Debug, PartialEq, Eq)]
 pub enum Action {
     Nothing,
     Drop,
@@ -72,7 +73,7 @@ pub enum Action {
     ReadBegan(u8),
 }
 
-#[derive(Clone, Copy)]
+#[derive(Clone, Copy, Debug, PartialEq, Eq)]
 pub struct Step {
     pub state: State,
     pub action: Action,

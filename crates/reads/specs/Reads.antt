@@ -1,5 +1,6 @@
 -- Reads of the acceleration registers, 02..07: a pair of bytes held from the low byte to the high byte.
-use Rattle.std.specs.Prelude.{ℕ, ◌+◌, ◌-◌, ◌*◌, ◌/◌, ◌%◌, Bool, true, false, ◌&&◌, List, [], ◌∷◌, leb, eqb, get_or, set, if◌then◌else◌}
+use Rattle.std.specs.Prelude.{ℕ, ◌-◌, ◌*◌, ◌/◌, ◌%◌, Bool, true, false, ◌&&◌, List, [], ◌∷◌, Option, Some, None, leb, eqb, get_or, set, if◌then◌else◌}
+use Rattle.std.specs.Option.{is_some, unwrap_or, option_map_or}
 use Rattle.laws.specs.Notation.{Byte, Address}
 use Rattle.registers.specs.Map.{acc_lsb, acc_msb}
 use Rattle.reads.specs.declared.Reads.{Reads}
@@ -30,56 +31,55 @@ without_new_data byte = byte / 2 * 2
 -- ---- what is kept
 
 -- no pair is held for any axis
-abbrev pub none_held : List Bool
-none_held = false ∷ false ∷ false ∷ []
+abbrev pub none_held : List (Option (List ℕ))
+none_held = None ∷ None ∷ None ∷ []
 
 -- at the start: nothing is held or being sent, and the last high bytes are 0 (01, "Wrong turns")
 abbrev pub new : Reads
-new = record { shadows = 0 ∷ 0 ∷ 0 ∷ 0 ∷ 0 ∷ 0 ∷ []; held = none_held; last_msb = 0 ∷ 0 ∷ 0 ∷ []; tx_pair = 0 ∷ 0 ∷ []; paired = false; tx_shadow = false }
+new = record { shadows = none_held; last_msb = 0 ∷ 0 ∷ 0 ∷ []; tx_pair = None; tx_shadow = false }
 
--- the Rust's `shadows = [None; 3]`: no pair is held, and the bytes stay, unused
+-- the Rust's `shadows = [None; 3]`: no pair is held
 abbrev pub released : Reads → Reads
-released s = record { shadows = s.shadows; held = none_held; last_msb = s.last_msb; tx_pair = s.tx_pair; paired = s.paired; tx_shadow = s.tx_shadow }
+released s = record s { shadows = none_held }
 
 -- the Rust's `last_msb = [0; 3]` of `soft_reset`
 abbrev pub forgotten : Reads → Reads
-forgotten s = record { shadows = s.shadows; held = s.held; last_msb = 0 ∷ 0 ∷ 0 ∷ []; tx_pair = s.tx_pair; paired = s.paired; tx_shadow = s.tx_shadow }
+forgotten s = record s { last_msb = 0 ∷ 0 ∷ 0 ∷ [] }
 
--- the Rust's `tx_pair = None`, `tx_shadow = false`: the bytes of the pair stay, unused
+-- the Rust's `tx_pair = None`, `tx_shadow = false`
 abbrev pub dropped : Reads → Reads
-dropped s = record { shadows = s.shadows; held = s.held; last_msb = s.last_msb; tx_pair = s.tx_pair; paired = false; tx_shadow = false }
+dropped s = record s { tx_pair = None; tx_shadow = false }
 
--- a pair is held for the axis (the Rust's `shadows[axis]` is `Some`)
+-- the pair of an axis, if one is held (the Rust's `shadows[axis]`)
+abbrev pub shadow : Reads → (axis : ℕ) → Option (List ℕ)
+shadow s axis = get_or s.shadows axis None
+
+-- a pair is held for the axis
 abbrev pub is_held : Reads → (axis : ℕ) → Bool
-is_held s axis = get_or s.held axis false
+is_held s axis = is_some (shadow s axis)
 
--- the low byte of the axis's pair, at 2a
-abbrev pub held_low : Reads → (axis : ℕ) → ℕ
-held_low s axis = get_or s.shadows (2 * axis) 0
-
--- the high byte of the axis's pair, at 2a + 1
+-- the high byte of the axis's pair
 abbrev pub held_high : Reads → (axis : ℕ) → ℕ
-held_high s axis = get_or s.shadows (2 * axis + 1) 0
+held_high s axis = option_map_or (λ pair. get_or pair 1 0) (shadow s axis) 0
 
 -- ---- a byte to send (the Rust's `prepare_read`, of a byte that `peek` shows)
 
 -- the held pair of an axis, else the bytes of its registers (the Rust's `unwrap_or`)
 unfoldable pub pair : Reads → (axis low high : ℕ) → List ℕ
-pair s axis low high = if is_held s axis then held_low s axis ∷ held_high s axis ∷ [] else low ∷ high ∷ []
+pair s axis low high = unwrap_or (shadow s axis) (low ∷ high ∷ [])
 
 -- a low byte is the first of the pair, which becomes `tx_pair` (the Rust's rule)
 abbrev pub prepared_low : Reads → (axis low high : ℕ) → Prepared
 prepared_low s axis low high =
-    record { reads = record { shadows = s.shadows; held = s.held; last_msb = s.last_msb; tx_pair = pair s axis low high; paired = true; tx_shadow = true }; byte = get_or (pair s axis low high) 0 0 }
+    record { reads = record s { tx_pair = Some (pair s axis low high); tx_shadow = true }; byte = get_or (pair s axis low high) 0 0 }
 
 -- 01, "Wrong turns": a high byte is that of the held pair; before its low byte it is the last acknowledged one
 unfoldable pub high_byte : Reads → (axis : ℕ) → ℕ
-high_byte s axis = if is_held s axis then held_high s axis else get_or s.last_msb axis 0
+high_byte s axis = option_map_or (λ pair. get_or pair 1 0) (shadow s axis) (get_or s.last_msb axis 0)
 
 -- a high byte is sent without a `tx_pair` (the Rust's rule)
 abbrev pub prepared_high : Reads → (byte : Byte) → Prepared
-prepared_high s byte =
-    record { reads = record { shadows = s.shadows; held = s.held; last_msb = s.last_msb; tx_pair = s.tx_pair; paired = s.paired; tx_shadow = true }; byte = byte }
+prepared_high s byte = record { reads = record s { tx_shadow = true }; byte = byte }
 
 -- outside 02..07, or without shadowing, the byte is the one viewed; what was being sent is dropped first (the Rust's rule)
 unfoldable pub prepared : Reads → (address : Address) (viewed : Byte) (low high : ℕ) (shadowing : Bool) → Prepared
@@ -90,19 +90,17 @@ prepared s address viewed low high shadowing =
 
 -- ---- a byte taken (the Rust's `acknowledge_read`)
 
--- after a low byte `tx_pair` is held for its axis, with new_data clear (the Rust's rule)
-abbrev pub holding : Reads → (axis : ℕ) → Reads
-holding s axis =
-    record { shadows = set (set s.shadows (2 * axis) (without_new_data (get_or s.tx_pair 0 0))) (2 * axis + 1) (get_or s.tx_pair 1 0); held = set s.held axis true; last_msb = s.last_msb; tx_pair = s.tx_pair; paired = s.paired; tx_shadow = s.tx_shadow }
+-- after a low byte the pair that it was sent from is held for its axis, with new_data clear (the Rust's rule)
+abbrev pub holding : Reads → (axis : ℕ) (pair : List ℕ) → Reads
+holding s axis pair = record s { shadows = set s.shadows axis (Some (without_new_data (get_or pair 0 0) ∷ get_or pair 1 0 ∷ [])) }
 
 -- after a high byte it is the last one of its axis, whose pair is released (the Rust's rule)
 abbrev pub finished : Reads → (axis : ℕ) (sent : Byte) → Reads
-finished s axis sent =
-    record { shadows = s.shadows; held = set s.held axis false; last_msb = set s.last_msb axis sent; tx_pair = s.tx_pair; paired = s.paired; tx_shadow = s.tx_shadow }
+finished s axis sent = record s { shadows = set s.shadows axis None; last_msb = set s.last_msb axis sent }
 
 -- only an acceleration that was sent with shadowing on changes what is kept; `tx_pair` stays (the Rust's rule)
 unfoldable pub read_began : Reads → (address : Address) (sent : Byte) → Reads
 read_began s address sent =
     if is_shadowed address s.tx_shadow
-    then (if s.paired then holding s (axis_of address) else finished s (axis_of address) sent)
+    then option_map_or (holding s (axis_of address)) s.tx_pair (finished s (axis_of address) sent)
     else s

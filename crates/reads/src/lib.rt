@@ -4,20 +4,18 @@
 ghost use Rattle.std.specs.Prelude.{◌≡◌, ◌<◌};
 ghost use Rattle.reads.specs.Reads as R;
 
-// What the reads keep. The held pair of axis a stands at 2a and 2a + 1 of `shadows`, if `held[a]`; the pair that is being
-// sent stands in `tx_pair`, if `paired`.
-#[derive(Clone, Copy)]
+// What the reads keep: the held pair of each axis, the last high byte of each, the pair that a low byte is being sent from, and
+// whether what is being sent comes from a pair.
+#[derive(Clone, Copy, Debug, PartialEq, Eq)]
 pub struct Reads {
-    pub shadows: [u8; 6],
-    pub held: [bool; 3],
+    pub shadows: [Option<[u8; 2]>; 3],
     pub last_msb: [u8; 3],
-    pub tx_pair: [u8; 2],
-    pub paired: bool,
+    pub tx_pair: Option<[u8; 2]>,
     pub tx_shadow: bool,
 }
 
 // The reads and the byte to send.
-#[derive(Clone, Copy)]
+#[derive(Clone, Copy, Debug, PartialEq, Eq)]
 pub struct Prepared {
     pub reads: Reads,
     pub byte: u8,
@@ -28,20 +26,14 @@ pub struct Prepared {
 pub fn is_acceleration(address: u8) -> bool
     ensures { result ≡ R.is_acceleration address }
 {
-    if address < 0x02 {
-        return false;
-    }
-    address <= 0x07
+    (0x02..=0x07).contains(&address)
 }
 
 // The axis of an acceleration's address.
 pub fn axis_of(address: u8) -> u8
     ensures { result ≡ R.axis_of address }
 {
-    if address < 0x02 {
-        return 0;
-    }
-    (address - 0x02) / 2
+    address.saturating_sub(0x02) / 2
 }
 
 // Whether an acceleration's byte comes from a pair.
@@ -49,17 +41,14 @@ pub fn axis_of(address: u8) -> u8
 fn is_shadowed(address: u8, shadowing: bool) -> bool
     ensures { result ≡ R.is_shadowed address shadowing }
 {
-    if shadowing {
-        return is_acceleration(address);
-    }
-    false
+    shadowing && is_acceleration(address)
 }
 
 // A low byte with new_data clear.
 pub fn without_new_data(byte: u8) -> u8
     ensures { result ≡ R.without_new_data byte }
 {
-    byte / 2 * 2
+    byte & !1
 }
 
 impl Reads {
@@ -68,38 +57,42 @@ impl Reads {
         ensures { result ≡ R.new }
     {
         Reads {
-            shadows: [0, 0, 0, 0, 0, 0],
-            held: [false, false, false],
-            last_msb: [0, 0, 0],
-            tx_pair: [0, 0],
-            paired: false,
+            shadows: [None; 3],
+            last_msb: [0; 3],
+            tx_pair: None,
             tx_shadow: false,
         }
     }
 
     // No pair is held any more.
-    pub fn release(mut self) -> Reads
+    pub fn release(self) -> Reads
         ensures { result ≡ R.released self }
     {
-        self.held = [false, false, false];
-        self
+        Reads {
+            shadows: [None; 3],
+            ..self
+        }
     }
 
     // The last high bytes are 0.
-    pub fn forget(mut self) -> Reads
+    pub fn forget(self) -> Reads
         ensures { result ≡ R.forgotten self }
     {
-        self.last_msb = [0, 0, 0];
-        self
+        Reads {
+            last_msb: [0; 3],
+            ..self
+        }
     }
 
     // Nothing is being sent.
-    pub fn drop(mut self) -> Reads
+    pub fn drop(self) -> Reads
         ensures { result ≡ R.dropped self }
     {
-        self.paired = false;
-        self.tx_shadow = false;
-        self
+        Reads {
+            tx_pair: None,
+            tx_shadow: false,
+            ..self
+        }
     }
 
     // The held pair of an axis, else the bytes of its registers.
@@ -108,24 +101,22 @@ impl Reads {
         requires { axis < 3 }
         ensures { result ≡ R.pair self axis low high }
     {
-        let i = axis as usize;
-        if self.held[i] {
-            return [self.shadows[2 * i], self.shadows[2 * i + 1]];
-        }
-        [low, high]
+        self.shadows[usize::from(axis)].unwrap_or([low, high])
     }
 
     // A low byte is sent from its pair.
-    fn prepare_low(mut self, axis: u8, low: u8, high: u8) -> Prepared
+    fn prepare_low(self, axis: u8, low: u8, high: u8) -> Prepared
         requires { axis < 3 }
         ensures { result ≡ R.prepared_low self axis low high }
     {
         let pair = self.pair(axis, low, high);
-        self.tx_pair = pair;
-        self.paired = true;
-        self.tx_shadow = true;
+        let reads = Reads {
+            tx_pair: Some(pair),
+            tx_shadow: true,
+            ..self
+        };
         Prepared {
-            reads: self,
+            reads,
             byte: pair[0],
         }
     }
@@ -136,23 +127,26 @@ impl Reads {
         requires { axis < 3 }
         ensures { result ≡ R.high_byte self axis }
     {
-        let i = axis as usize;
-        if self.held[i] {
-            return self.shadows[2 * i + 1];
+        let i = usize::from(axis);
+        match self.shadows[i] {
+            Some(pair) => pair[1],
+            None => self.last_msb[i],
         }
-        self.last_msb[i]
     }
 
     // A high byte is sent, without a pair.
-    fn prepare_high(mut self, byte: u8) -> Prepared
+    fn prepare_high(self, byte: u8) -> Prepared
         ensures { result ≡ R.prepared_high self byte }
     {
-        self.tx_shadow = true;
-        Prepared { reads: self, byte }
+        let reads = Reads {
+            tx_shadow: true,
+            ..self
+        };
+        Prepared { reads, byte }
     }
 
     // The byte to send for a register that shows `viewed`; `low` and `high` are the registers of the address's axis.
-    #[tactic(auto, unfolding(crate::specs::Reads::prepared, crate::specs::Reads::high_byte))]
+    #[tactic(auto, unfolding(crate::specs::Reads::prepared, crate::specs::Reads::high_byte), using(crate::specs::Theorems::Pairs::axis_lt))]
     pub fn prepare(self, address: u8, viewed: u8, low: u8, high: u8, shadowing: bool) -> Prepared
         ensures { result ≡ R.prepared self address viewed low high shadowing }
     {
@@ -165,23 +159,19 @@ impl Reads {
         }
         let axis = axis_of(address);
         if address % 2 == 0 {
-            return reads.prepare_low(axis, low, high);
+            reads.prepare_low(axis, low, high)
+        } else {
+            reads.prepare_high(reads.high_byte(axis))
         }
-        let byte = reads.high_byte(axis);
-        reads.prepare_high(byte)
     }
 
     // The pair that was sent from is held for its axis.
-    fn hold(mut self, axis: u8) -> Reads
+    fn hold(mut self, axis: u8, pair: [u8; 2]) -> Reads
         requires { axis < 3 }
-        ensures { result ≡ R.holding self axis }
+        ensures { result ≡ R.holding self axis pair }
     {
-        let i = axis as usize;
-        let low = without_new_data(self.tx_pair[0]);
-        let high = self.tx_pair[1];
-        self.shadows[2 * i] = low;
-        self.shadows[2 * i + 1] = high;
-        self.held[i] = true;
+        let [low, high] = pair;
+        self.shadows[usize::from(axis)] = Some([without_new_data(low), high]);
         self
     }
 
@@ -190,14 +180,14 @@ impl Reads {
         requires { axis < 3 }
         ensures { result ≡ R.finished self axis sent }
     {
-        let i = axis as usize;
+        let i = usize::from(axis);
+        self.shadows[i] = None;
         self.last_msb[i] = sent;
-        self.held[i] = false;
         self
     }
 
     // The first bit of the byte `sent` was taken.
-    #[tactic(auto, unfolding(crate::specs::Reads::read_began))]
+    #[tactic(auto, unfolding(crate::specs::Reads::read_began), using(crate::specs::Theorems::Pairs::axis_lt))]
     pub fn read_began(self, address: u8, sent: u8) -> Reads
         ensures { result ≡ R.read_began self address sent }
     {
@@ -205,9 +195,9 @@ impl Reads {
             return self;
         }
         let axis = axis_of(address);
-        if self.paired {
-            return self.hold(axis);
+        match self.tx_pair {
+            Some(pair) => self.hold(axis, pair),
+            None => self.finish(axis, sent),
         }
-        self.finish(axis, sent)
     }
 }

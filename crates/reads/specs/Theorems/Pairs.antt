@@ -1,13 +1,15 @@
 -- The bytes of one sample: a low byte and then its high byte.
-use Rattle.std.specs.Prelude.{◌≡◌, Bool, true, false, List, ℕ, ◌+◌, ◌*◌, ◌/◌, ◌%◌, ◌^◌, ◌<◌, leb, length, get_or, set}
+use Rattle.std.specs.Prelude.{◌≡◌, Bool, true, false, List, ℕ, ◌/◌, ◌%◌, ◌^◌, ◌<◌, Option, Some, None, leb, length, get_or}
 use Rattle.std.proofs.Math.Path.{refl, ap}
 use Rattle.std.proofs.Common.{◌∙◌, arith, length-set, get_or-set_same}
+use Rattle.std.proofs.lemmas.Bool.{both_ways}
+use Rattle.std.specs.Option.{is_some, option_map_or}
 use borrow.Author.Tests.{leb-true, le-leb, eq-eqb}
 use Rattle.laws.specs.Bools.{and_right}
 use Rattle.registers.specs.Map.{acc_lsb, acc_msb, new_data}
 use Rattle.reads.specs.declared.Reads.{Reads}
 use Rattle.reads.specs.declared.Prepared.{Prepared}
-use Rattle.reads.specs.Reads.{is_acceleration, is_shadowed, axis_of, is_low, without_new_data, is_held, held_high, pair, high_byte, dropped, prepared_low, prepared_high, prepared, holding, read_began}
+use Rattle.reads.specs.Reads.{is_acceleration, is_shadowed, axis_of, is_low, without_new_data, shadow, is_held, held_high, pair, high_byte, dropped, prepared_low, prepared_high, prepared, holding, read_began}
 
 -- ---- addresses
 
@@ -51,10 +53,22 @@ others_kept byte = omega arith
 
 -- ---- a byte to send
 
--- the arrays have the lengths that their types say
+-- the pairs are as many as their type says
 pub record Sized (s : Reads) : Type 0 where
-  pub pairs : length s.shadows ≡ 6
-  pub axes : length s.held ≡ 3
+  pub axes : length s.shadows ≡ 3
+
+-- the high byte of a pair if there is one, else another byte
+without : (o : Option (List ℕ)) (byte : ℕ) → is_some o ≡ false → option_map_or (λ pair. get_or pair 1 0) o byte ≡ byte
+without None byte e = refl
+without (Some pair) byte e = absurd (both_ways true e refl)
+
+within : (o : Option (List ℕ)) (byte : ℕ) → is_some o ≡ true → option_map_or (λ pair. get_or pair 1 0) o byte ≡ option_map_or (λ pair. get_or pair 1 0) o 0
+within None byte e = absurd (both_ways false refl e)
+within (Some pair) byte e = refl
+
+-- what a low byte leaves that was sent and taken: its pair is held
+abbrev pub after_low : Reads → (axis low high : ℕ) → Reads
+after_low s axis low high = holding (prepared_low (dropped s) axis low high).reads axis (pair s axis low high)
 
 module _ (s : Reads) (axis viewed low high : ℕ) (p : axis < 3) where
   -- a low byte read with shadowing on is sent from the pair, a high byte without
@@ -69,16 +83,16 @@ module _ (s : Reads) (axis viewed low high : ℕ) (p : axis < 3) where
   -- a high byte before its low byte: no pair is held, and it shows the last high byte of the axis (01, "Wrong turns")
   pub high_before_low : is_held s axis ≡ false → (prepared s (acc_msb axis) viewed low high true).byte ≡ get_or s.last_msb axis 0
   unfolding high_byte
-  high_before_low e = ap (λ (r : Prepared). r.byte) high_sent ∙ simp e
+  high_before_low e = ap (λ (r : Prepared). r.byte) high_sent ∙ without (shadow s axis) _ e
 
   -- a high byte whose pair is held is that of the pair
   pub high_held : is_held s axis ≡ true → (prepared s (acc_msb axis) viewed low high true).byte ≡ held_high s axis
   unfolding high_byte
-  high_held e = ap (λ (r : Prepared). r.byte) high_sent ∙ simp e
+  high_held e = ap (λ (r : Prepared). r.byte) high_sent ∙ within (shadow s axis) _ e
 
   -- the low byte taken: its pair is held
-  low_taken : (sent : ℕ) → read_began (prepared_low (dropped s) axis low high).reads (acc_lsb axis) sent ≡ holding (prepared_low (dropped s) axis low high).reads axis
-  unfolding read_began
+  low_taken : (sent : ℕ) → read_began (prepared_low (dropped s) axis low high).reads (acc_lsb axis) sent ≡ after_low s axis low high
+  unfolding pair read_began
   low_taken sent = rw (low_is axis p, low_axis axis p)
 
   -- the pair that is sent from does not depend on what was being sent before
@@ -93,22 +107,19 @@ after_read s address viewed low high shadowing =
 
 module _ (s : Reads) (axis viewed low high : ℕ) (p : axis < 3) where
   -- a low byte sent and taken: its pair is held
-  pub low_read : after_read s (acc_lsb axis) viewed low high true ≡ holding (prepared_low (dropped s) axis low high).reads axis
+  pub low_read : after_read s (acc_lsb axis) viewed low high true ≡ after_low s axis low high
   low_read = rw (low_sent s axis viewed low high p) (low_taken s axis viewed low high p _)
 
 module _ (s : Reads) (axis low high : ℕ) (p : axis < 3) (sized : Sized s) where
-  -- then the pair is held, with its high byte, in arrays of the same lengths
-  pub held_then : is_held (holding (prepared_low (dropped s) axis low high).reads axis) axis ≡ true
-  held_then = get_or-set_same s.held axis true false (omega (arith, sized.axes))
+  -- then the pair is held, with its high byte, and there are as many pairs as before
+  pub held_then : is_held (after_low s axis low high) axis ≡ true
+  held_then = rw (get_or-set_same s.shadows axis _ None (omega (arith, sized.axes)))
 
-  pub high_then : held_high (holding (prepared_low (dropped s) axis low high).reads axis) axis ≡ get_or (pair s axis low high) 1 0
-  high_then =
-      let l : 2 * axis + 1 < length (set s.shadows (2 * axis) (without_new_data (get_or (pair (dropped s) axis low high) 0 0))) =
-      rw length-set (omega (arith, sized.pairs)) in
-      get_or-set_same (set s.shadows (2 * axis) _) (2 * axis + 1) _ 0 l ∙ ap (λ (l : List ℕ). get_or l 1 0) (pair_dropped s axis low low high p)
+  pub high_then : held_high (after_low s axis low high) axis ≡ get_or (pair s axis low high) 1 0
+  high_then = rw (get_or-set_same s.shadows axis _ None (omega (arith, sized.axes)))
 
-  pub sized_then : (a : ℕ) → Sized (holding (prepared_low (dropped s) a low high).reads a)
-  sized_then a = record { pairs = simp length-set sized.pairs; axes = simp length-set sized.axes }
+  pub sized_then : (a : ℕ) → Sized (after_low s a low high)
+  sized_then a = record { axes = simp length-set sized.axes }
 
   -- a low byte and then its high byte are the two bytes of one pair, whatever the registers became between
   pub one_sample : (viewed viewed' low' high' : ℕ)

@@ -1,12 +1,14 @@
 -- A pair is held until its high byte is read: no other read changes its high byte.
-use Rattle.std.specs.Prelude.{◌≡◌, refl, Bool, true, false, List, [], ◌∷◌, ℕ, ◌+◌, ◌*◌, ◌%◌, ◌<◌, leb, eqb, get_or, set}
+use Rattle.std.specs.Prelude.{◌≡◌, refl, Bool, true, false, List, [], ◌∷◌, Option, Some, None, ℕ, ◌%◌, ◌<◌, leb, eqb, get_or}
+use Rattle.std.proofs.lemmas.Bool.{both_ways}
+use Rattle.std.specs.Option.{is_some, unwrap_or, option_map_or}
 use Rattle.std.proofs.Common.{sym, ◌∙◌, arith, length-set, get_or-set_other}
 use borrow.Author.Tests.{leb-true, eqb-true, eqb-false}
 use Rattle.laws.specs.Bools.{and_left}
 use Rattle.registers.specs.Map.{acc_lsb, acc_msb}
 use Rattle.reads.specs.declared.Reads.{Reads}
-use Rattle.reads.specs.Reads.{is_acceleration, is_shadowed, axis_of, is_low, is_held, held_high, pair, high_byte, dropped, prepared_low, prepared_high, prepared, holding, finished, read_began}
-use Rattle.reads.specs.Theorems.Pairs.{Sized, after_read, held_then, high_then, sized_then, high_held, low_read}
+use Rattle.reads.specs.Reads.{is_acceleration, is_shadowed, axis_of, is_low, without_new_data, shadow, is_held, held_high, pair, high_byte, dropped, prepared_high, prepared, finished, read_began}
+use Rattle.reads.specs.Theorems.Pairs.{Sized, after_low, after_read, held_then, high_then, sized_then, high_held, low_read}
 
 -- the pair of an axis is still held, with the same high byte
 pub record Kept (axis : ℕ) (s t : Reads) : Type 0 where
@@ -27,8 +29,8 @@ module _ (s : Reads) (address viewed low high : ℕ) where
 
   module _ (e : is_shadowed address true ≡ true) where
     low_byte_read : is_low address ≡ true
-        → after_read s address viewed low high true ≡ holding (prepared_low (dropped s) (axis_of address) low high).reads (axis_of address)
-    unfolding prepared read_began
+        → after_read s address viewed low high true ≡ after_low s (axis_of address) low high
+    unfolding pair prepared read_began
     low_byte_read l = simp (e, l)
 
     high_byte_read : is_low address ≡ false
@@ -37,28 +39,30 @@ module _ (s : Reads) (address viewed low high : ℕ) where
     high_byte_read l = simp (e, l)
 
 -- ---- the pair stays held
+
+-- the high byte of a pair that there is
+of_pair : (o : Option (List ℕ)) (other : List ℕ) → is_some o ≡ true → get_or (unwrap_or o other) 1 0 ≡ option_map_or (λ pair. get_or pair 1 0) o 0
+of_pair None other e = absurd (both_ways false refl e)
+of_pair (Some pair) other e = refl
+
 module _ (s : Reads) (axis : ℕ) (p : axis < 3) (sized : Sized s) (h : is_held s axis ≡ true) where
   pair_high : (low high : ℕ) → get_or (pair s axis low high) 1 0 ≡ held_high s axis
   unfolding pair
-  pair_high low high = simp h
+  pair_high low high = of_pair (shadow s axis) (low ∷ high ∷ []) h
 
-  held_same : (a low high : ℕ) → a ≡ axis → Kept axis s (holding (prepared_low (dropped s) a low high).reads a)
+  held_same : (a low high : ℕ) → a ≡ axis → Kept axis s (after_low s a low high)
   held_same a low high e =
       rw e (record { sized = sized_then s axis low high p sized axis; still = held_then s axis low high p sized; high = high_then s axis low high p sized ∙ pair_high low high })
 
-  held_other : (a low high : ℕ) → (a ≡ axis → ⊥) → Kept axis s (holding (prepared_low (dropped s) a low high).reads a)
+  held_other : (a low high : ℕ) → (a ≡ axis → ⊥) → Kept axis s (after_low s a low high)
   held_other a low high n =
-      record {
-        sized = sized_then s axis low high p sized a;
-        still = get_or-set_other s.held a axis true false (λ e. n (sym e)) ∙ h;
-        high =
-            get_or-set_other (set s.shadows (2 * a) _) (2 * a + 1) (2 * axis + 1) _ 0 (λ e. n (omega arith))
-            ∙ get_or-set_other s.shadows (2 * a) (2 * axis + 1) _ 0 (λ e. absurd (omega arith));
-      }
+      let e = get_or-set_other s.shadows a axis (Some (without_new_data (get_or (pair s a low high) 0 0) ∷ get_or (pair s a low high) 1 0 ∷ [])) None (λ e. n (sym e)) in
+      record { sized = sized_then s axis low high p sized a; still = rw e h; high = rw e }
 
   finished_other : (a byte : ℕ) → (a ≡ axis → ⊥) → Kept axis s (finished (prepared_high (dropped s) byte).reads a byte)
   finished_other a byte n =
-      record { sized = record { pairs = sized.pairs; axes = simp length-set sized.axes }; still = get_or-set_other s.held a axis false false (λ e. n (sym e)) ∙ h; high = refl }
+      let e = get_or-set_other s.shadows a axis None None (λ e. n (sym e)) in
+      record { sized = record { axes = simp length-set sized.axes }; still = rw e h; high = rw e }
 
   -- the other address of an axis's pair
   not_this : (address : ℕ) → is_shadowed address true ≡ true → is_low address ≡ false → (address ≡ acc_msb axis → ⊥) → axis_of address ≡ axis → ⊥
@@ -66,7 +70,7 @@ module _ (s : Reads) (axis : ℕ) (p : axis < 3) (sized : Sized s) (h : is_held 
   not_this address e l n q =
       n (omega (arith, leb-true 2 address (and_left (leb 2 address) (leb address 7) e), eqb-false (address % 2) 0 l))
 
-  by_axis : (a low high : ℕ) (b : Bool) → eqb a axis ≡ b → Kept axis s (holding (prepared_low (dropped s) a low high).reads a)
+  by_axis : (a low high : ℕ) (b : Bool) → eqb a axis ≡ b → Kept axis s (after_low s a low high)
   by_axis a low high true e = held_same a low high (eqb-true a axis e)
   by_axis a low high false e = held_other a low high (eqb-false a axis e)
 
@@ -80,7 +84,7 @@ module _ (s : Reads) (axis : ℕ) (p : axis < 3) (sized : Sized s) (h : is_held 
       by_low e false l = rw (high_byte_read s address viewed low high e l) (finished_other (axis_of address) (high_byte s (axis_of address)) (not_this address e l n))
 
       unchanged : (w : Bool) → is_shadowed address w ≡ false → Kept axis s (after_read s address viewed low high w)
-      unchanged w e = rw (other_read s address viewed low high w e) (record { sized = record { pairs = sized.pairs; axes = sized.axes }; still = h; high = refl })
+      unchanged w e = rw (other_read s address viewed low high w e) (record { sized = record { axes = sized.axes }; still = h; high = refl })
 
       by_shadow : (w b : Bool) → is_shadowed address w ≡ b → Kept axis s (after_read s address viewed low high w)
       by_shadow w false e = unchanged w e
@@ -120,6 +124,6 @@ held_until (r ∷ rs) s axis p sized h n =
 pub one_sample_until : (rs : List Read) (s : Reads) (axis viewed low high viewed' low' high' : ℕ) → axis < 3 → Sized s → none_of (acc_msb axis) rs
     → (prepared (after_reads rs (after_read s (acc_lsb axis) viewed low high true)) (acc_msb axis) viewed' low' high' true).byte ≡ get_or (pair s axis low high) 1 0
 one_sample_until rs s axis viewed low high viewed' low' high' p sized n =
-    let t = holding (prepared_low (dropped s) axis low high).reads axis in
+    let t = after_low s axis low high in
     let k = held_until rs t axis p (sized_then s axis low high p sized axis) (held_then s axis low high p sized) n in
     rw (low_read s axis viewed low high p) (high_held (after_reads rs t) axis viewed' low' high' p k.still ∙ k.high ∙ high_then s axis low high p sized)
