@@ -1,5 +1,5 @@
 -- The pieces of a line as ASCII bytes (01, "Bench program").
-use Rattle.std.specs.Prelude.{Bool, List, [], ◌∷◌, ◌++◌, ℕ, ◌+◌, ◌/◌, ◌%◌, ltb, eqb, if◌then◌else◌}
+use Rattle.std.specs.Prelude.{Bool, List, [], ◌∷◌, ◌++◌, ℕ, zero, suc, ◌+◌, ◌-◌, ◌/◌, ◌%◌, ◌^◌, length, take, ltb, eqb, if◌then◌else◌}
 use Rattle.std.proofs.Math.Option.{Option, none, some}
 use Rattle.laws.specs.Notation.{ascii}
 use Rattle.time.specs.declared.Time.{Time}
@@ -9,6 +9,10 @@ space = 32
 
 abbrev pub line_feed : ℕ
 line_feed = 10
+
+-- the text l of a line, and of m as much as its buffer of 128 bytes has room for
+unfoldable pub appended : (l m : List ℕ) → List ℕ
+appended l m = l ++ take (128 - length l) m
 
 -- ---- hexadecimal, lower case
 
@@ -24,15 +28,14 @@ abbrev pub hexes : List ℕ → List ℕ
 hexes [] = []
 hexes (b ∷ l) = hex b ++ hexes l
 
--- 4, 8 and 16 digits
-unfoldable pub hex4 : ℕ → List ℕ
-hex4 x = hex (x / 256) ++ hex (x % 256)
+-- the digits of the upper half of a number's bytes, then those of the lower: 1, 2, 4 and 8 bytes for n = 0, 1, 2 and 3
+unfoldable pub hex_halves : (n : ℕ) → ℕ → List ℕ
+hex_halves zero x = hex x
+hex_halves (suc n) x = hex_halves n (x / 256 ^ (2 ^ n)) ++ hex_halves n (x % 256 ^ (2 ^ n))
 
-unfoldable pub hex8 : ℕ → List ℕ
-hex8 x = hex4 (x / 65536) ++ hex4 (x % 65536)
-
-unfoldable pub hex16 : ℕ → List ℕ
-hex16 x = hex8 (x / 4294967296) ++ hex8 (x % 4294967296)
+-- 16 digits
+abbrev pub hex16 : ℕ → List ℕ
+hex16 x = hex_halves 3 x
 
 -- ---- `ok` or the table's word, for 01's number
 
