@@ -8,30 +8,44 @@ use lib.IntN.{ℤ}
 use borrow.Author.Tests.{ne_eqb}
 use Rattle.time.specs.declared.Time.{Time}
 use Rattle.i2c.specs.declared.types.Levels.{Levels}
+use Rattle.calls.specs.declared.types.Outcome.{Outcome}
+use Rattle.calls.specs.declared.types.Refusal.{Refusal}
 use Rattle.calls.specs.declared.types.Timed.TheVariants as Timed
 use Rattle.calls.specs.declared.types.Call.TheVariants as Call
 use Rattle.calls.specs.declared.types.Starting.{Starting}
 use Rattle.calls.specs.Facts.{facts}
 use Rattle.calls.specs.Table as R
-use Rattle.calls.specs.Table.{Outcome, wrong_length, first_found, refusal, unless_refused}
+use Rattle.calls.specs.Table.{wrong_length, first_found, refusal, refusal_number, unless_refused}
 use Rattle.calls.proofs.Theorems.Left.{temperature_accepted, select_accepted}
 use Rattle.samples.specs.Samples.{interaction_deadline}
 use Rattle.bma150.specs.declared.host.Bma150.{Bma150}
 use Rattle.commands.specs.declared.Command.TheVariants as Command
 use Rattle.bma150.specs.Called.{Added, Called, timed_adds, adds, number, called, start_number, after_start}
 use Rattle.bma150.specs.Lent.{PinsLent}
-use Rattle.bench.specs.declared.types.Extra.{Extra}
-use Rattle.bench.specs.Line.{silent, started, commanded, no_extra, extra_adds}
+use Rattle.bench.specs.Line.{silent, started, commanded}
 
 pub called_is : {n m : ℕ} {s t : Bma150} {a b : Added} → n ≡ m → s ≡ t → a ≡ b → ◌≡◌ {A = Called} (record { number = n; sensor = s; adds = a }) (record { number = m; sensor = t; adds = b })
 called_is p q r = cc (p, q, r)
 
 -- a refused call adds nothing
-pub extra_unless : (n : ℕ) (x : Extra) (image : List ℕ) → extra_adds (unless_refused n no_extra x) image ≡ unless_refused n Added.nothing (extra_adds x image)
-unfolding unless_refused extra_adds
-extra_unless n x image = go (eqb n 0)
+pub refused_adds : (why : Refusal) (a : Added) → Added.nothing ≡ unless_refused (R.refusal_number why) Added.nothing a
+unfolding unless_refused refusal_number
+refused_adds Refusal.ImageLength a = refl
+refused_adds Refusal.AxisRange a = refl
+refused_adds Refusal.TimeLimit a = refl
+refused_adds Refusal.TimeBack a = refl
+refused_adds Refusal.DueFirst a = refl
+refused_adds Refusal.NotDue a = refl
+refused_adds Refusal.Command a = refl
+refused_adds Refusal.PinJump a = refl
+refused_adds Refusal.ReservedCode a = refl
+
+-- nor does an accepted one that adds nothing
+pub nothing_unless : (n : ℕ) → unless_refused n Added.nothing Added.nothing ≡ Added.nothing
+unfolding unless_refused
+nothing_unless n = go (eqb n 0)
   where
-    go : (b : Bool) → extra_adds (cond b x no_extra) image ≡ cond b (extra_adds x image) Added.nothing
+    go : (b : Bool) → cond b Added.nothing Added.nothing ≡ Added.nothing
     go true = refl
     go false = refl
 
@@ -65,14 +79,6 @@ module _ (s : Bma150) where
       called_is (sym e) refl (sym (ap (λ (n : ℕ). unless_refused n Added.nothing Added.nothing) e))
 
 -- what a lent pin call left and answered
-nothing_unless : (n : ℕ) → Added.nothing ≡ unless_refused n Added.nothing Added.nothing
-unfolding unless_refused
-nothing_unless n = go (eqb n 0)
-  where
-    go : (b : Bool) → Added.nothing ≡ cond b Added.nothing Added.nothing
-    go true = refl
-    go false = refl
-
 pub pins_called : (s : Bma150) (now : Time) (before after : Levels) (t : Bma150) (o : Outcome) → PinsLent s now before after t o → silent t (R.number o) ≡ called s (Call.At now (Timed.Pins before after))
 unfolding adds timed_adds
-pins_called s now before after t o e = called_is e.answers e.leaves (nothing_unless (number s (Call.At now (Timed.Pins before after))))
+pins_called s now before after t o e = called_is e.answers e.leaves (sym (nothing_unless (number s (Call.At now (Timed.Pins before after)))))

@@ -1,9 +1,10 @@
 -- What a command leaves and answers, and the line that is written of it (01, "Bench program").
-use Rattle.std.specs.Prelude.{◌≡◌, Bool, List, [], ◌∷◌, ◌++◌, ℕ, eqb, if◌then◌else◌}
+use Rattle.std.specs.Prelude.{Bool, List, [], ◌∷◌, ◌++◌, ℕ, eqb, Option, None, Some, Result, Ok, Err, if◌then◌else◌}
 use Rattle.laws.specs.Notation.{Image}
 use Rattle.time.specs.declared.Time.{Time}
 use Rattle.commands.specs.declared.Command.{Command}
 use Rattle.calls.specs.declared.types.Starting.{Starting}
+use Rattle.calls.specs.declared.types.Refusal.{Refusal}
 use Rattle.calls.specs.Table as R
 use Rattle.bma150.specs.declared.host.Bma150.{Bma150}
 use Rattle.bma150.specs.Values.{drive_letter, report_values, view_value, mark_letter}
@@ -55,18 +56,30 @@ said trace b s c image = line trace b (commanded s c image)
 
 -- ---- what the code hands from the step to the line
 
-abbrev pub no_extra : Extra
-no_extra = Extra.Nothing
+unfoldable pub extra_adds : Extra → Added
+extra_adds (Extra.Reported report) = Added.report (report_values report)
+extra_adds (Extra.Viewed view mark) = Added.viewed (view_value view) (mark_letter mark)
+extra_adds (Extra.Image image) = Added.put image
 
-unfoldable pub extra_adds : Extra → (image : Image) → Added
-extra_adds Extra.Nothing image = Added.nothing
-extra_adds (Extra.Reported report) image = Added.report (report_values report)
-extra_adds (Extra.Viewed view mark) image = Added.viewed (view_value view) (mark_letter mark)
-extra_adds Extra.Image image = Added.put image
+abbrev pub adds : Option Extra → Added
+adds None = Added.nothing
+adds (Some extra) = extra_adds extra
 
--- whatever the image
-abbrev pub same_adds : Extra → Added → Type 0
-same_adds x a = (image : List ℕ) → extra_adds x image ≡ a
+abbrev pub Answer : Type 0
+Answer = Result (Option Extra) Refusal
+
+-- 0, or the number of the refusal
+abbrev pub answer_number : Answer → ℕ
+answer_number (Ok extra) = R.no_refusal
+answer_number (Err why) = R.refusal_number why
+
+abbrev pub answer_adds : Answer → Added
+answer_adds (Ok extra) = adds extra
+answer_adds (Err why) = Added.nothing
+
+-- a refused call adds nothing
+abbrev pub unless_refused : ℕ → Added → Added
+unless_refused n a = R.unless_refused n Added.nothing a
 
 abbrev pub replied : Reply → Called
-replied r = record { number = R.number r.outcome; sensor = r.sensor; adds = extra_adds r.extra r.image }
+replied r = record { number = answer_number r.answer; sensor = r.sensor; adds = answer_adds r.answer }

@@ -1,5 +1,6 @@
 -- The pieces of a line as ASCII bytes (01, "Bench program").
-use Rattle.std.specs.Prelude.{Bool, List, [], ◌∷◌, ◌++◌, ℕ, ◌+◌, ◌/◌, ◌%◌, ltb, eqb, if◌then◌else◌, Option, Some, None}
+use Rattle.std.specs.Prelude.{Bool, List, [], ◌∷◌, ◌++◌, ℕ, zero, suc, ◌+◌, ◌-◌, ◌/◌, ◌%◌, ◌^◌, length, take, ltb, eqb, if◌then◌else◌}
+use Rattle.std.proofs.Math.Option.{Option, none, some}
 use Rattle.laws.specs.Notation.{ascii}
 use Rattle.time.specs.declared.Time.{Time}
 
@@ -8,6 +9,10 @@ space = 32
 
 abbrev pub line_feed : ℕ
 line_feed = 10
+
+-- the text l of a line, and of m as much as its buffer of 128 bytes has room for
+unfoldable pub appended : (l m : List ℕ) → List ℕ
+appended l m = l ++ take (128 - length l) m
 
 -- ---- hexadecimal, lower case
 
@@ -23,15 +28,14 @@ abbrev pub hexes : List ℕ → List ℕ
 hexes [] = []
 hexes (b ∷ l) = hex b ++ hexes l
 
--- 4, 8 and 16 digits
-unfoldable pub hex4 : ℕ → List ℕ
-hex4 x = hex (x / 256) ++ hex (x % 256)
+-- the digits of the upper half of a number's bytes, then those of the lower: 1, 2, 4 and 8 bytes for n = 0, 1, 2 and 3
+unfoldable pub hex_halves : (n : ℕ) → ℕ → List ℕ
+hex_halves zero x = hex x
+hex_halves (suc n) x = hex_halves n (x / 256 ^ (2 ^ n)) ++ hex_halves n (x % 256 ^ (2 ^ n))
 
-unfoldable pub hex8 : ℕ → List ℕ
-hex8 x = hex4 (x / 65536) ++ hex4 (x % 65536)
-
-unfoldable pub hex16 : ℕ → List ℕ
-hex16 x = hex8 (x / 4294967296) ++ hex8 (x % 4294967296)
+-- 16 digits
+abbrev pub hex16 : ℕ → List ℕ
+hex16 x = hex_halves 3 x
 
 -- ---- `ok` or the table's word, for 01's number
 
@@ -57,13 +61,13 @@ bit b = if b then 49 else 48
 
 -- the byte or `--`
 unfoldable pub view_text : Option ℕ → List ℕ
-view_text (Some b) = space ∷ hex b
-view_text None = ascii " --"
+view_text (some b) = space ∷ hex b
+view_text none = ascii " --"
 
 -- the mark of an acceleration as one more field, or nothing
 unfoldable pub mark_text : Option ℕ → List ℕ
-mark_text (Some letter) = space ∷ letter ∷ []
-mark_text None = []
+mark_text (some letter) = space ∷ letter ∷ []
+mark_text none = []
 
 -- a report's values, each byte of two digits
 abbrev pub spaced : List ℕ → List ℕ
@@ -82,8 +86,8 @@ image_text l = (space ∷ []) ++ hexes l
 -- ---- the trace's ` due ` and next due: seconds and fraction of 16 digits each, or `-` (the form of the oracle's `--due`)
 
 unfoldable pub moment_text : Option Time → List ℕ
-moment_text (Some t) = hex16 t.0 ++ (space ∷ []) ++ hex16 t.1
-moment_text None = ascii "-"
+moment_text (some t) = hex16 t.0 ++ (space ∷ []) ++ hex16 t.1
+moment_text none = ascii "-"
 
 unfoldable pub due_text : (trace : Bool) (due : Option Time) → List ℕ
 due_text trace due = if trace then ascii " due " ++ moment_text due else []

@@ -1,12 +1,14 @@
 // The bench program's library: commands to calls, replies to lines, and the run over a block of input.
 #![tactic(auto)]
 
-ghost use Rattle.std.specs.Prelude.{◌≡◌, not, cond, ◌&&◌, ◌||◌, ◌≤◌, eqb, length, drop};
+ghost use Rattle.std.specs.Prelude.{◌≡◌, not, cond, ◌&&◌, ◌||◌, ◌+◌, ◌≤◌, eqb, length, drop};
 ghost use Rattle.std.proofs.lemmas.List.Edits.{sets};
+ghost use Rattle.machine.specs.Put.{Put};
 ghost use Rattle.bench.specs.Block as B;
 
-use crate::lines::write_line;
+use crate::lines::line;
 use crate::steps::serve;
+use crate::text::Line;
 use bma150::host::Bma150;
 use commands::{decode, is_bad, size, wants};
 
@@ -25,28 +27,13 @@ pub struct Ran {
 }
 
 // Whether the command at `at` is whole: its bytes are there, or no more come and one is.
-#[tactic(auto, unfolding(crate::specs::Block::is_whole))]
+#[tactic(auto, unfolding(crate::specs::Block::is_whole), using(crate::specs::Theorems::Loop::none_left))]
 pub fn is_whole(input: &[u8], at: usize, over: bool) -> bool
     ensures { result ≡ B.is_whole over (drop at input.now) }
 {
-    if at < input.len() {
-        if over {
-            return true;
-        }
-        let b = input[at];
-        return wants(b) <= input.len() - at;
-    }
-    false
-}
-
-fn after_block(sensor: Bma150, read: usize, written: usize, stop: bool) -> Ran
-    ensures { result ≡ B.after_block sensor read written stop }
-{
-    Ran {
-        sensor: sensor,
-        read: read,
-        written: written,
-        stop: stop,
+    match input.get(at..) {
+        Some(left @ [first, ..]) => over || wants(*first) <= left.len(),
+        _ => false,
     }
 }
 
@@ -54,16 +41,19 @@ fn after_block(sensor: Bma150, read: usize, written: usize, stop: bool) -> Ran
 fn turned(trace: bool, lent: bool, b: u8) -> bool
     ensures { result ≡ (trace && cond (eqb b 5 || eqb b 9) (not lent) lent) }
 {
-    if trace {
-        if b == 5 {
-            return !lent;
-        }
-        if b == 9 {
-            return !lent;
-        }
-        return lent;
-    }
-    false
+    trace && lent != matches!(b, 0x05 | 0x09)
+}
+
+// Writes a line at `at`, and answers where it ends.
+fn store(out: &mut [u8; 65536], at: usize, line: &Line) -> usize
+    requires { at ≤ 65408 }
+    ensures put { Put out.old at line.now out.new result }
+    ensures fits { result ≤ 65536 }
+{
+    let text = line.text();
+    let end = at + text.len();
+    out[at..end].copy_from_slice(text);
+    end
 }
 
 // The commands of a block of input, while a whole one is left and a line fits.
@@ -73,25 +63,26 @@ pub fn run(input: &[u8], over: bool, trace: bool, out: &mut [u8; 65536], sensor:
     ensures input_value { (B.block trace over sensor input.now).left ≡ drop result.read input.now }
     ensures read_in_bounds { (result.read ≤ length input.now) × (result.written ≤ 65536) }
 {
-    let mut at: usize = 0;
-    let mut p: usize = 0;
-    let mut n = sensor;
+    let mut ran = Ran {
+        sensor,
+        read: 0,
+        written: 0,
+        stop: false,
+    };
     let mut lent = false;
-    while is_whole(input, at, over) {
-        if 65408 < p {
-            return after_block(n, at, p, false);
-        }
-        let b = input[at];
-        let c = decode(input, at);
-        let r = serve(n, c, input, at, lent);
-        p = write_line(out, p, trace, b, r);
-        at += size(c);
-        let m = r.sensor;
-        n = m;
-        if is_bad(c) {
-            return after_block(n, at, p, true);
-        }
+    while !ran.stop && ran.written <= 65408 && is_whole(input, ran.read, over) {
+        let b = input[ran.read];
+        let left = &input[ran.read..];
+        let command = decode(left, 0);
+        let reply = serve(ran.sensor, command, left, lent);
+        let text = line(trace, b, &reply);
+        ran = Ran {
+            sensor: reply.sensor,
+            read: ran.read + size(command),
+            written: store(out, ran.written, &text),
+            stop: is_bad(command),
+        };
         lent = turned(trace, lent, b);
     }
-    after_block(n, at, p, false)
+    ran
 }

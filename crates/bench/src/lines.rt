@@ -1,50 +1,35 @@
 // A command's line: the command in hexadecimal, the word, the pins, what the command adds, the trace's next due, a line feed.
-ghost use Rattle.std.specs.Prelude.{◌≡◌, [], ◌∷◌, ◌+◌, ◌≤◌};
+ghost use Rattle.std.specs.Prelude.{◌≡◌, ◌≤◌, [], ◌∷◌, length};
 ghost use Rattle.deadlines.specs.Deadlines.{moment};
 ghost use Rattle.calls.specs.Table as R;
 ghost use Rattle.bma150.specs.Values as Vals;
 ghost use Rattle.bma150.specs.Called as K;
-ghost use Rattle.machine.specs.Put.{Put};
 ghost use Rattle.bench.specs.Text as T;
 ghost use Rattle.bench.specs.Line as L;
 
-use crate::text::{put, put_hex, put_hex16, put_hexes, put_word};
+use crate::text::Line;
 use crate::types::{Extra, Reply};
 use bma150::host::Bma150;
-use calls::types::{Outcome, Refusal};
+use calls::types::Refusal;
 use deadlines::Deadline;
-use sensor::types::{Mark };
+use sensor::types::{Mark, View};
 use spi::types::Drive;
 use waits::types::Report;
 
 #[tactic(auto, unfolding(crate::specs::Text::word, calls::specs::Table::refusal_number))]
-fn put_refusal(out: &mut [u8; 65536], o: usize, why: Refusal) -> usize
-    requires { o + 13 ≤ 65536 }
-    ensures put { Put out.old o (T.word (R.refusal_number why)) out.new result }
-    ensures upper_bound { result ≤ o + 13 }
+fn word(why: Refusal) -> &'static [u8]
+    ensures { result.now ≡ T.word (R.refusal_number why) }
 {
     match why {
-        Refusal::ImageLength => put_word(out, o, b"image-length"),
-        Refusal::AxisRange => put_word(out, o, b"axis-range"),
-        Refusal::TimeLimit => put_word(out, o, b"time-limit"),
-        Refusal::TimeBack => put_word(out, o, b"time-back"),
-        Refusal::DueFirst => put_word(out, o, b"due-first"),
-        Refusal::NotDue => put_word(out, o, b"not-due"),
-        Refusal::Command => put_word(out, o, b"command"),
-        Refusal::PinJump => put_word(out, o, b"pin-jump"),
-        Refusal::ReservedCode => put_word(out, o, b"reserved-code"),
-    }
-}
-
-#[tactic(auto, unfolding(crate::specs::Text::word, calls::specs::Table::number))]
-fn put_outcome(out: &mut [u8; 65536], o: usize, outcome: Outcome) -> usize
-    requires { o + 13 ≤ 65536 }
-    ensures put { Put out.old o (T.word (R.number outcome)) out.new result }
-    ensures upper_bound { result ≤ o + 13 }
-{
-    match outcome {
-        Outcome::Accepted => put_word(out, o, b"ok"),
-        Outcome::Refused(why) => put_refusal(out, o, why),
+        Refusal::ImageLength => b"image-length",
+        Refusal::AxisRange => b"axis-range",
+        Refusal::TimeLimit => b"time-limit",
+        Refusal::TimeBack => b"time-back",
+        Refusal::DueFirst => b"due-first",
+        Refusal::NotDue => b"not-due",
+        Refusal::Command => b"command",
+        Refusal::PinJump => b"pin-jump",
+        Refusal::ReservedCode => b"reserved-code",
     }
 }
 
@@ -52,10 +37,7 @@ fn put_outcome(out: &mut [u8; 65536], o: usize, outcome: Outcome) -> usize
 fn bit(b: bool) -> u8
     ensures { result ≡ T.bit b }
 {
-    if b {
-        return b'1';
-    }
-    b'0'
+    if b { b'1' } else { b'0' }
 }
 
 #[tactic(auto, unfolding(bma150::specs::Values::drive_letter))]
@@ -71,145 +53,144 @@ fn letter(d: Drive) -> u8
 
 // Interrupt, four-wire output, data pin.
 #[tactic(auto, unfolding(crate::specs::Line::pins))]
-fn put_pins(out: &mut [u8; 65536], o: usize, s: Bma150) -> usize
-    requires { o + 6 ≤ 65536 }
-    ensures put { Put out.old o (L.pins s) out.new result }
-    ensures upper_bound { result ≤ o + 6 }
+fn pins(s: Bma150) -> [u8; 6]
+    ensures { result ≡ L.pins s }
 {
-    let i = bit(s.interrupt());
-    let f = letter(s.output());
-    let d = letter(s.data_output());
-    let p1 = put(out, o, b' ');
-    let p2 = put(out, p1, i);
-    let p3 = put(out, p2, b' ');
-    let p4 = put(out, p3, f);
-    let p5 = put(out, p4, b' ');
-    put(out, p5, d)
+    let interrupt = bit(s.interrupt());
+    let output = letter(s.output());
+    let data = letter(s.data_output());
+    [b' ', interrupt, b' ', output, b' ', data]
 }
 
-#[tactic(auto, unfolding(crate::specs::Text::view_text, bma150::specs::Values::view_value))]
-fn put_view(out: &mut [u8; 65536], o: usize, v: Option<u8>) -> usize
-    requires { o + 3 ≤ 65536 }
-    ensures put { Put out.old o (T.view_text (Vals.view_value v)) out.new result }
-    ensures upper_bound { result ≤ o + 3 }
-{
-    match v {
-        Some(b) => {
-            let p = put(out, o, b' ');
-            put_hex(out, p, b)
+impl Line {
+    // `ok`, or why the command is refused.
+    #[tactic(auto, unfolding(crate::specs::Text::word))]
+    fn answer(&mut self, answer: Result<Option<Extra>, Refusal>)
+        ensures { self.new ≡ T.appended self.old (T.word (L.answer_number answer)) }
+    {
+        match answer {
+            Ok(_) => self.word(b"ok"),
+            Err(why) => self.word(word(why)),
         }
-        None => put_word(out, o, b" --"),
+    }
+
+    // A report's address and byte.
+    #[tactic(auto, using(crate::proofs::Appended::both))]
+    fn stored(&mut self, address: u8, byte: u8)
+        ensures { self.new ≡ T.appended self.old (T.spaced (address ∷ byte ∷ [])) }
+    {
+        self.put(b' ');
+        self.hex(address);
+        self.put(b' ');
+        self.hex(byte);
+    }
+
+    #[tactic(auto, unfolding(crate::specs::Text::report_text, bma150::specs::Values::report_values), using(crate::proofs::Appended::both))]
+    fn report(&mut self, report: Report)
+        ensures { self.new ≡ T.appended self.old (T.report_text (Vals.report_values report)) }
+    {
+        match report {
+            Report::Nothing => self.word(b" -"),
+            Report::Completed(address, byte) => {
+                self.word(b" C");
+                self.stored(address, byte);
+            }
+            Report::Cut(address, byte) => {
+                self.word(b" X");
+                self.stored(address, byte);
+            }
+        }
+    }
+
+    #[tactic(auto, unfolding(crate::specs::Text::view_text, bma150::specs::Values::view_value), using(crate::proofs::Appended::both))]
+    fn view(&mut self, view: View)
+        ensures { self.new ≡ T.appended self.old (T.view_text (Vals.view_value view)) }
+    {
+        match view {
+            View::Byte(b) => {
+                self.put(b' ');
+                self.hex(b);
+            }
+            View::Withheld => self.word(b" --"),
+        }
+    }
+
+    #[tactic(auto, unfolding(crate::specs::Text::mark_text, bma150::specs::Values::mark_letter), using(crate::proofs::Appended::none))]
+    fn mark(&mut self, mark: Mark)
+        ensures { self.new ≡ T.appended self.old (T.mark_text (Vals.mark_letter mark)) }
+    {
+        match mark {
+            Mark::Mean => self.word(b" m"),
+            Mark::Single => self.word(b" s"),
+            Mark::Nothing => {}
+        }
+    }
+
+    // 38 digits.
+    #[tactic(auto, unfolding(crate::specs::Text::image_text), using(crate::proofs::Appended::both, crate::proofs::Fits::image_fits))]
+    fn image(&mut self, image: &[u8; 19])
+        ensures text { self.new ≡ T.appended self.old (T.image_text image.now) }
+        ensures fits { length (T.image_text image.now) ≤ 39 }
+    {
+        self.put(b' ');
+        self.hexes(image);
+    }
+
+    // What a command adds, if it is accepted and adds anything.
+    #[tactic(auto, unfolding(crate::specs::Line::extra_adds, crate::specs::Line::added_text), using(crate::proofs::Appended::both, crate::proofs::Appended::none, crate::proofs::Fits::report_fits, crate::proofs::Fits::viewed_fits))]
+    fn added(&mut self, answer: Result<Option<Extra>, Refusal>)
+        ensures text { self.new ≡ T.appended self.old (L.added_text (L.answer_adds answer)) }
+        ensures fits { length (L.added_text (L.answer_adds answer)) ≤ 39 }
+    {
+        match answer {
+            Ok(Some(Extra::Reported(report))) => self.report(report),
+            Ok(Some(Extra::Viewed(view, mark))) => {
+                self.view(view);
+                self.mark(mark);
+            }
+            Ok(Some(Extra::Image(image))) => self.image(&image),
+            Ok(None) | Err(_) => {}
+        }
+    }
+
+    // Seconds and fraction of 16 digits each.
+    #[tactic(auto, unfolding(crate::specs::Text::moment_text, deadlines::specs::Deadlines::moment), using(crate::proofs::Appended::both, crate::proofs::Hex::hex16_is))]
+    fn moment(&mut self, d: Deadline)
+        ensures { self.new ≡ T.appended self.old (T.moment_text (moment d)) }
+    {
+        match d {
+            Deadline::At(t) => {
+                self.hexes(&t.0.to_be_bytes());
+                self.put(b' ');
+                self.hexes(&t.1.to_be_bytes());
+            }
+            Deadline::Never => self.word(b"-"),
+        }
+    }
+
+    #[tactic(auto, unfolding(crate::specs::Text::due_text), using(crate::proofs::Appended::both, crate::proofs::Appended::none))]
+    fn due(&mut self, trace: bool, s: Bma150)
+        ensures { self.new ≡ T.appended self.old (T.due_text trace (K.next_due s)) }
+    {
+        if trace {
+            self.word(b" due ");
+            self.moment(s.next_due());
+        }
     }
 }
 
-#[tactic(auto, unfolding(crate::specs::Text::mark_text, bma150::specs::Values::mark_letter))]
-fn put_mark(out: &mut [u8; 65536], o: usize, m: Mark) -> usize
-    requires { o + 2 ≤ 65536 }
-    ensures put { Put out.old o (T.mark_text (Vals.mark_letter m)) out.new result }
-    ensures upper_bound { result ≤ o + 2 }
+// The line of a command that begins with b.
+#[tactic(auto, unfolding(crate::specs::Line::line), using(crate::proofs::Appended::both))]
+pub(crate) fn line(trace: bool, b: u8, reply: &Reply) -> Line
+    ensures { result ≡ L.line trace b (L.replied reply.now) }
 {
-    match m {
-        Mark::Mean => put_word(out, o, b" m"),
-        Mark::Single => put_word(out, o, b" s"),
-        Mark::Nothing => o,
-    }
-}
-
-// An address and a byte.
-fn put_stored(out: &mut [u8; 65536], o: usize, a: u8, v: u8) -> usize
-    requires { o + 6 ≤ 65536 }
-    ensures put { Put out.old o (T.spaced (a ∷ v ∷ [])) out.new result }
-    ensures upper_bound { result ≤ o + 6 }
-{
-    let p1 = put(out, o, b' ');
-    let p2 = put_hex(out, p1, a);
-    let p3 = put(out, p2, b' ');
-    put_hex(out, p3, v)
-}
-
-#[tactic(auto, unfolding(crate::specs::Text::report_text, bma150::specs::Values::report_values))]
-fn put_report(out: &mut [u8; 65536], o: usize, w: Report) -> usize
-    requires { o + 8 ≤ 65536 }
-    ensures put { Put out.old o (T.report_text (Vals.report_values w)) out.new result }
-    ensures upper_bound { result ≤ o + 8 }
-{
-    match w {
-        Report::Nothing => put_word(out, o, b" -"),
-        Report::Completed(a, v) => {
-            let p = put_word(out, o, b" C");
-            put_stored(out, p, a, v)
-        }
-        Report::Cut(a, v) => {
-            let p = put_word(out, o, b" X");
-            put_stored(out, p, a, v)
-        }
-    }
-}
-
-#[tactic(auto, unfolding(crate::specs::Line::extra_adds, crate::specs::Line::added_text, crate::specs::Text::image_text))]
-fn put_extra(out: &mut [u8; 65536], o: usize, x: Extra, image: &[u8; 19]) -> usize
-    requires { o + 39 ≤ 65536 }
-    ensures put { Put out.old o (L.added_text (L.extra_adds x image.now)) out.new result }
-    ensures upper_bound { result ≤ o + 39 }
-{
-    match x {
-        Extra::Nothing => o,
-        Extra::Reported(w) => put_report(out, o, w),
-        Extra::Viewed(v, m) => {
-            let p = put_view(out, o, v);
-            put_mark(out, p, m)
-        }
-        Extra::Image => {
-            let p = put(out, o, b' ');
-            put_hexes(out, p, image)
-        }
-    }
-}
-
-#[tactic(auto, unfolding(crate::specs::Text::moment_text, deadlines::specs::Deadlines::moment))]
-fn put_moment(out: &mut [u8; 65536], o: usize, d: Option<Time>) -> usize
-    requires { o + 33 ≤ 65536 }
-    ensures put { Put out.old o (T.moment_text (moment d)) out.new result }
-    ensures upper_bound { result ≤ o + 33 }
-{
-    match d {
-        Some(t) => {
-            let p1 = put_hex16(out, o, t.0);
-            let p2 = put(out, p1, b' ');
-            put_hex16(out, p2, t.1)
-        }
-        None => put(out, o, b'-'),
-    }
-}
-
-#[tactic(auto, unfolding(crate::specs::Text::due_text))]
-fn put_due(out: &mut [u8; 65536], o: usize, trace: bool, s: Bma150) -> usize
-    requires { o + 38 ≤ 65536 }
-    ensures put { Put out.old o (T.due_text trace (K.next_due s)) out.new result }
-    ensures upper_bound { result ≤ o + 38 }
-{
-    if trace {
-        let p = put_word(out, o, b" due ");
-        return put_moment(out, p, s.next_due());
-    }
-    o
-}
-
-#[tactic(auto, unfolding(crate::specs::Line::line))]
-pub(crate) fn write_line(out: &mut [u8; 65536], o: usize, trace: bool, b: u8, r: Reply) -> usize
-    requires { o + 128 ≤ 65536 }
-    ensures put { Put out.old o (L.line trace b (L.replied r)) out.new result }
-    ensures upper_bound { result ≤ o + 128 }
-{
-    let s = r.sensor;
-    let outcome = r.outcome;
-    let x = r.extra;
-    let image = r.image;
-    let p1 = put_hex(out, o, b);
-    let p2 = put(out, p1, b' ');
-    let p3 = put_outcome(out, p2, outcome);
-    let p4 = put_pins(out, p3, s);
-    let p5 = put_extra(out, p4, x, &image);
-    let p6 = put_due(out, p5, trace, s);
-    put(out, p6, b'\n')
+    let mut line = Line::new();
+    line.hex(b);
+    line.put(b' ');
+    line.answer(reply.answer);
+    line.word(&pins(reply.sensor));
+    line.added(reply.answer);
+    line.due(trace, reply.sensor);
+    line.put(b'\n');
+    line
 }

@@ -1,5 +1,5 @@
 // A command is served: a start, a call of the host, or refusal 7.
-ghost use Rattle.std.specs.Prelude.{◌≡◌, ◌+◌, ◌≤◌, length, drop};
+ghost use Rattle.std.specs.Prelude.{◌≡◌, ◌≤◌, length};
 ghost use Rattle.commands.specs.Decode as D;
 ghost use Rattle.commands.specs.declared.Command.TheVariants as Command;
 ghost use Rattle.calls.specs.Table as R;
@@ -20,16 +20,26 @@ use i2c::types::Levels;
 use time::Time;
 use waits::types::Report;
 
+// What an accepted call adds; a refused one adds nothing.
+#[tactic(auto, unfolding(calls::specs::Table::number, calls::specs::Table::unless_refused), using(crate::proofs::Laws::refused_adds))]
+fn answer(outcome: Outcome, extra: Option<Extra>) -> Result<Option<Extra>, Refusal>
+    ensures number { L.answer_number result ≡ R.number outcome }
+    ensures adds { L.answer_adds result ≡ L.unless_refused (R.number outcome) (L.adds extra) }
+{
+    match outcome {
+        Outcome::Accepted => Ok(extra),
+        Outcome::Refused(why) => Err(why),
+    }
+}
+
 // A reply that adds nothing.
-#[tactic(auto, unfolding(crate::specs::Line::extra_adds))]
+#[tactic(auto, using(crate::proofs::Laws::nothing_unless))]
 fn silent(sensor: Bma150, outcome: Outcome) -> Reply
     ensures { L.replied result ≡ L.silent sensor (R.number outcome) }
 {
     Reply {
-        sensor: sensor,
-        outcome: outcome,
-        extra: Extra::Nothing,
-        image: [0; 19],
+        sensor,
+        answer: answer(outcome, None),
     }
 }
 
@@ -44,75 +54,44 @@ fn begun(by: Starting, when: Time, image: &[u8]) -> Replied
     }
 }
 
-// A start's image stands in the input; a refused start leaves the running sensor.
-fn start(running: Bma150, by: Starting, when: Time, input: &[u8], at: usize) -> Reply
-    requires { at + 32 ≤ length input.now }
-    ensures { L.replied result ≡ L.commanded running (Command.Start by when) (D.image (drop at input.now)) }
+// A refused start leaves the running sensor.
+fn start(running: Bma150, by: Starting, when: Time, image: &[u8]) -> Reply
+    ensures { L.replied result ≡ L.commanded running (Command.Start by when) image.now }
 {
-    let from = at + 13;
-    let to = at + 32;
-    let reply = begun(by, when, &input[from..to]);
-    let outcome = reply.outcome;
-    let s = reply.sensor;
-    if is_accepted(outcome) {
-        return silent(s, outcome);
-    }
-    silent(running, outcome)
+    let Replied { sensor, outcome } = begun(by, when, image);
+    let kept = if is_accepted(outcome) {
+        sensor
+    } else {
+        running
+    };
+    silent(kept, outcome)
 }
 
 // Supply and due calls report.
 #[tactic(auto, unfolding(crate::specs::Line::extra_adds, bma150::specs::Called::timed_adds))]
-fn timed_extra(t: Timed, report: Report) -> Extra
-    ensures { L.same_adds result (K.timed_adds t report) }
+fn timed_extra(t: Timed, report: Report) -> Option<Extra>
+    ensures { L.adds result ≡ K.timed_adds t report }
 {
-    match t {
-        Timed::Accelerations(_, _, _) => Extra::Nothing,
-        Timed::Supply(_) => Extra::Reported(report),
-        Timed::Due => Extra::Reported(report),
-        Timed::Rising(_) => Extra::Nothing,
-        Timed::Falling => Extra::Nothing,
-        Timed::Pins(_, _) => Extra::Nothing,
-    }
-}
-
-// A refused call adds nothing.
-#[tactic(auto, unfolding(calls::specs::Table::unless_refused))]
-fn unless_refused(outcome: Outcome, extra: Extra) -> Extra
-    ensures { result ≡ R.unless_refused (R.number outcome) L.no_extra extra }
-{
-    if is_accepted(outcome) {
-        return extra;
-    }
-    Extra::Nothing
+    matches!(t, Timed::Supply(_) | Timed::Due).then_some(Extra::Reported(report))
 }
 
 fn timed(sensor: Bma150, when: Time, t: Timed) -> Reply
     ensures { L.replied result ≡ K.called sensor (Call.At when t) }
 {
     let reply = sensor.timed(when, t);
-    let s = reply.sensor;
-    let outcome = reply.outcome;
-    let report = reply.report;
     Reply {
-        sensor: s,
-        outcome: outcome,
-        extra: unless_refused(outcome, timed_extra(t, report)),
-        image: [0; 19],
+        sensor: reply.sensor,
+        answer: answer(reply.outcome, timed_extra(t, reply.report)),
     }
 }
 
 // The reply of a lent due call that left this sensor and this answer.
-#[tactic(auto, unfolding(crate::specs::Line::extra_adds, bma150::specs::Called::timed_adds))]
 fn answered(sensor: Bma150, a: Answered) -> Reply
     ensures { (s : Bma150) (t : Time) → DueLent s t sensor a → L.replied result ≡ K.called s (Call.At t Timed.Due) }
 {
-    let outcome = a.outcome;
-    let report = a.report;
     Reply {
-        sensor: sensor,
-        outcome: outcome,
-        extra: unless_refused(outcome, Extra::Reported(report)),
-        image: [0; 19],
+        sensor,
+        answer: answer(a.outcome, timed_extra(Timed::Due, a.report)),
     }
 }
 
@@ -132,39 +111,25 @@ fn pins_by_lending(mut sensor: Bma150, when: Time, before: Levels, after: Levels
     silent(sensor, outcome)
 }
 
-// A timed call: the due call and the pin call over a lent sensor, any other by value.
-fn timed_lent(sensor: Bma150, when: Time, t: Timed) -> Reply
+// A timed call; where `lent` says so, the due call and the pin call go over a lent sensor, any other by value.
+fn timed_either(sensor: Bma150, when: Time, t: Timed, lent: bool) -> Reply
     ensures { L.replied result ≡ K.called sensor (Call.At when t) }
 {
     match t {
-        Timed::Due => due_by_lending(sensor, when),
-        Timed::Pins(before, after) => pins_by_lending(sensor, when, before, after),
+        Timed::Due if lent => due_by_lending(sensor, when),
+        Timed::Pins(before, after) if lent => pins_by_lending(sensor, when, before, after),
         _ => timed(sensor, when, t),
     }
 }
 
-// A timed call, by value or as above.
-fn timed_either(sensor: Bma150, when: Time, t: Timed, lent: bool) -> Reply
-    ensures { L.replied result ≡ K.called sensor (Call.At when t) }
-{
-    if lent {
-        return timed_lent(sensor, when, t);
-    }
-    timed(sensor, when, t)
-}
-
-#[tactic(auto, unfolding(crate::specs::Line::extra_adds, calls::specs::Table::number))]
+#[tactic(auto, unfolding(crate::specs::Line::extra_adds))]
 fn view(sensor: Bma150, address: u8) -> Reply
     ensures { L.replied result ≡ K.called sensor (Call.View address) }
 {
     let shown = sensor.view(address);
-    let view = shown.view;
-    let mark = shown.mark;
     Reply {
-        sensor: sensor,
-        outcome: Outcome::Accepted,
-        extra: Extra::Viewed(view, mark),
-        image: [0; 19],
+        sensor,
+        answer: Ok(Some(Extra::Viewed(shown.view, shown.mark))),
     }
 }
 
@@ -179,10 +144,8 @@ fn stored_image(sensor: Bma150, when: Time, length: usize) -> Reply
     let mut image = [0; 19];
     let outcome = sensor.stored_image(when, &mut image);
     Reply {
-        sensor: sensor,
-        outcome: outcome,
-        extra: unless_refused(outcome, Extra::Image),
-        image: image,
+        sensor,
+        answer: answer(outcome, Some(Extra::Image(image))),
     }
 }
 
@@ -199,14 +162,14 @@ fn host(sensor: Bma150, c: Call, lent: bool) -> Reply
     }
 }
 
-// The command that stands at `at` in the input; a bad one changes nothing. `lent`: a due or a pin call goes over a lent sensor.
+// The command at the head of the input; a bad one changes nothing. `lent`: a due or a pin call goes over a lent sensor.
 #[tactic(auto, unfolding(crate::specs::Line::commanded, calls::specs::Table::number, calls::specs::Table::refusal_number))]
-pub(crate) fn serve(sensor: Bma150, c: Command, input: &[u8], at: usize, lent: bool) -> Reply
-    requires { c ≡ D.decoded (drop at input.now) }
-    ensures { L.replied result ≡ L.commanded sensor c (D.image (drop at input.now)) }
+pub(crate) fn serve(sensor: Bma150, c: Command, input: &[u8], lent: bool) -> Reply
+    requires { c ≡ D.decoded input.now }
+    ensures { L.replied result ≡ L.commanded sensor c (D.image input.now) }
 {
     match c {
-        Command::Start(by, t) => start(sensor, by, t, input, at),
+        Command::Start(by, t) => start(sensor, by, t, &input[13..32]),
         Command::Host(call) => host(sensor, call, lent),
         Command::Bad => silent(sensor, Outcome::Refused(Refusal::Command)),
     }

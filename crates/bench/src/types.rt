@@ -1,22 +1,20 @@
 // What a command leaves and answers, before it is written.
 use bma150::host::Bma150;
-use calls::types::Outcome;
-use sensor::types::{Mark };
+use calls::types::Refusal;
+use sensor::types::{Mark, View};
 use waits::types::Report;
 
-// What a command adds to its line. An image stands beside it.
+// What a command adds to its line.
 #[derive(Clone, Copy)]
 pub enum Extra {
-    Nothing,
     Reported(Report),
     Viewed(View, Mark),
-    Image,
+    Image([u8; 19]),
 }
 
+// The sensor left; what an accepted command adds, if it adds anything, or why it is refused.
 #[derive(Clone, Copy)]
 pub struct Reply {
     pub sensor: Bma150,
-    pub outcome: Outcome,
-    pub extra: Extra,
-    pub image: [u8; 19],
+    pub answer: Result<Option<Extra>, Refusal>,
 }

@@ -1,6 +1,7 @@
 -- What the loop of `run` does, command by command.
-use Rattle.std.specs.Prelude.{◌≡◌, refl, Bool, true, false, List, ℕ, ◌+◌, ◌-◌, ◌≤◌, ◌<◌, length, drop, get_or}
+use Rattle.std.specs.Prelude.{◌≡◌, refl, Bool, true, false, cond, not, List, ℕ, ◌+◌, ◌-◌, ◌≤◌, ◌<◌, length, take, drop, get_or}
 use Rattle.std.proofs.Common.{sym, ap, ◌∙◌, arith, zero-add, leb-true, leb-false, le-leb, length-drop}
+use Rattle.std.proofs.Math.Seq.{take-length}
 use Rattle.std.proofs.lemmas.List.Edits.{sets}
 use Rattle.machine.specs.Put.{Put}
 use Rattle.machine.specs.Machine.{Running, running}
@@ -45,6 +46,10 @@ none_left over input at h = by_test (is_whole over (drop at input)) refl
     by_test true e = let z : ⊥ = omega (arith, some over (drop at input) e, length-drop at input) in absurd z
     by_test false e = e
 
+-- what is left of the input, as a slice has it
+pub left_is : (at : ℕ) (input : List ℕ) → take (length input - at) (drop at input) ≡ drop at input
+left_is at input = rw (← length-drop at input) (take-length (drop at input))
+
 -- it takes a byte at least, and no more than what is there
 pub advance : (over : Bool) (input : List ℕ) (at : ℕ) {k : ℕ} {c : Command} → is_whole over (drop at input) ≡ true → c ≡ decoded (drop at input) → k ≡ size c
     → (at + k ≤ length input) × (1 ≤ k)
@@ -53,6 +58,14 @@ advance over input at {k} {c} h ec ek =
     let n : length (drop at input) ≡ length input - at = length-drop at input in
     let j : size c ≤ length (drop at input) = rw ec (size_fits (drop at input) l) in
     (omega arith, omega (arith, size_pos c))
+
+never : ◌≡◌ {A = Bool} false true → ⊥
+never e = let z : ◌≡◌ {A = ℕ} 1 0 = ap (λ (b : Bool). cond b 0 1) e in omega arith
+
+-- the loop's test has failed
+pub stopped : (z : Bool) → not z ≡ false → z ≡ true
+stopped true h = refl
+stopped false h = absurd (never (sym h))
 
 -- ---- a command is served and its line written
 
@@ -71,6 +84,11 @@ module _ (trace : Bool) {over : Bool} {s : Bma150} {input d e : List ℕ} {n : B
   went {f} {q} {c} r {k} {z} b h fits ec er ek ez w =
       let g : M.least (bench trace) over (drop at input) ≤ length input - at = rw (← length-drop at input) (enough trace over (drop at input) h) in
       rw (ek, ez) (T.went (lawful trace) (took trace (get_or input at 0) c (replied r)) b g fits (took_is trace n input at c (replied r) ec er) w)
+
+  -- it has not stopped
+  pub going : (z : Bool) → not z ≡ true → Upto (bench trace) over s input d e n at p z → Upto (bench trace) over s input d e n at p false
+  going true h b = absurd (never h)
+  going false h b = b
 
   -- the loop is left: the block is done
   pub finished : {z : Bool} (b : Upto (bench trace) over s input d e n at p z) → at ≤ length input

@@ -1,0 +1,6 @@
+use Rattle.std.proofs.Common.{◌≡◌, take}
+use Rattle.bench.specs.Text.{appended, hexes}
+use Rattle.bench.proofs.text.Line.hexes.Given as goal
+
+abbrev pub invariant-loop-b : goal.invariant-loop-b
+invariant-loop-b l = l.self ≡ appended l.initial.self (hexes (take l.b-index l.w))
