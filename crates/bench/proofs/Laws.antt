@@ -8,14 +8,13 @@ use lib.IntN.{ℤ}
 use borrow.Author.Tests.{ne_eqb}
 use Rattle.time.specs.declared.Time.{Time}
 use Rattle.i2c.specs.declared.types.Levels.{Levels}
-use Rattle.calls.specs.declared.types.Outcome.{Outcome}
 use Rattle.calls.specs.declared.types.Refusal.{Refusal}
 use Rattle.calls.specs.declared.types.Timed.TheVariants as Timed
 use Rattle.calls.specs.declared.types.Call.TheVariants as Call
 use Rattle.calls.specs.declared.types.Starting.{Starting}
 use Rattle.calls.specs.Facts.{facts}
 use Rattle.calls.specs.Table as R
-use Rattle.calls.specs.Table.{wrong_length, first_found, refusal, refusal_number, unless_refused}
+use Rattle.calls.specs.Table.{Outcome, wrong_length, first_found, refusal, refusal_number, unless_refused}
 use Rattle.calls.proofs.Theorems.Left.{temperature_accepted, select_accepted}
 use Rattle.samples.specs.Samples.{interaction_deadline}
 use Rattle.bma150.specs.declared.host.Bma150.{Bma150}

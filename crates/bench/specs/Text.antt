@@ -1,6 +1,5 @@
 -- The pieces of a line as ASCII bytes (01, "Bench program").
-use Rattle.std.specs.Prelude.{Bool, List, [], ◌∷◌, ◌++◌, ℕ, zero, suc, ◌+◌, ◌-◌, ◌/◌, ◌%◌, ◌^◌, length, take, ltb, eqb, if◌then◌else◌}
-use Rattle.std.proofs.Math.Option.{Option, none, some}
+use Rattle.std.specs.Prelude.{Bool, List, [], ◌∷◌, ◌++◌, ℕ, zero, suc, ◌+◌, ◌-◌, ◌/◌, ◌%◌, ◌^◌, length, take, ltb, eqb, if◌then◌else◌, Option, Some, None}
 use Rattle.laws.specs.Notation.{ascii}
 use Rattle.time.specs.declared.Time.{Time}
 
@@ -61,13 +60,13 @@ bit b = if b then 49 else 48
 
 -- the byte or `--`
 unfoldable pub view_text : Option ℕ → List ℕ
-view_text (some b) = space ∷ hex b
-view_text none = ascii " --"
+view_text (Some b) = space ∷ hex b
+view_text None = ascii " --"
 
 -- the mark of an acceleration as one more field, or nothing
 unfoldable pub mark_text : Option ℕ → List ℕ
-mark_text (some letter) = space ∷ letter ∷ []
-mark_text none = []
+mark_text (Some letter) = space ∷ letter ∷ []
+mark_text None = []
 
 -- a report's values, each byte of two digits
 abbrev pub spaced : List ℕ → List ℕ
@@ -86,8 +85,8 @@ image_text l = (space ∷ []) ++ hexes l
 -- ---- the trace's ` due ` and next due: seconds and fraction of 16 digits each, or `-` (the form of the oracle's `--due`)
 
 unfoldable pub moment_text : Option Time → List ℕ
-moment_text (some t) = hex16 t.0 ++ (space ∷ []) ++ hex16 t.1
-moment_text none = ascii "-"
+moment_text (Some t) = hex16 t.0 ++ (space ∷ []) ++ hex16 t.1
+moment_text None = ascii "-"
 
 unfoldable pub due_text : (trace : Bool) (due : Option Time) → List ℕ
 due_text trace due = if trace then ascii " due " ++ moment_text due else []

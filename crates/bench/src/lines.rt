@@ -11,9 +11,9 @@ use crate::text::Line;
 use crate::types::{Extra, Reply};
 use bma150::host::Bma150;
 use calls::types::Refusal;
-use deadlines::Deadline;
-use sensor::types::{Mark, View};
+use sensor::types::Mark;
 use spi::types::Drive;
+use time::Time;
 use waits::types::Report;
 
 #[tactic(auto, unfolding(crate::specs::Text::word, calls::specs::Table::refusal_number))]
@@ -86,16 +86,16 @@ impl Line {
     }
 
     #[tactic(auto, unfolding(crate::specs::Text::report_text, bma150::specs::Values::report_values), using(crate::proofs::Appended::both))]
-    fn report(&mut self, report: Report)
+    fn report(&mut self, report: Option<Report>)
         ensures { self.new ≡ T.appended self.old (T.report_text (Vals.report_values report)) }
     {
         match report {
-            Report::Nothing => self.word(b" -"),
-            Report::Completed(address, byte) => {
+            None => self.word(b" -"),
+            Some(Report::Completed(address, byte)) => {
                 self.word(b" C");
                 self.stored(address, byte);
             }
-            Report::Cut(address, byte) => {
+            Some(Report::Cut(address, byte)) => {
                 self.word(b" X");
                 self.stored(address, byte);
             }
@@ -103,26 +103,26 @@ impl Line {
     }
 
     #[tactic(auto, unfolding(crate::specs::Text::view_text, bma150::specs::Values::view_value), using(crate::proofs::Appended::both))]
-    fn view(&mut self, view: View)
+    fn view(&mut self, view: Option<u8>)
         ensures { self.new ≡ T.appended self.old (T.view_text (Vals.view_value view)) }
     {
         match view {
-            View::Byte(b) => {
+            Some(b) => {
                 self.put(b' ');
                 self.hex(b);
             }
-            View::Withheld => self.word(b" --"),
+            None => self.word(b" --"),
         }
     }
 
     #[tactic(auto, unfolding(crate::specs::Text::mark_text, bma150::specs::Values::mark_letter), using(crate::proofs::Appended::none))]
-    fn mark(&mut self, mark: Mark)
+    fn mark(&mut self, mark: Option<Mark>)
         ensures { self.new ≡ T.appended self.old (T.mark_text (Vals.mark_letter mark)) }
     {
         match mark {
-            Mark::Mean => self.word(b" m"),
-            Mark::Single => self.word(b" s"),
-            Mark::Nothing => {}
+            Some(Mark::Mean) => self.word(b" m"),
+            Some(Mark::Single) => self.word(b" s"),
+            None => {}
         }
     }
 
@@ -154,17 +154,17 @@ impl Line {
     }
 
     // Seconds and fraction of 16 digits each.
-    #[tactic(auto, unfolding(crate::specs::Text::moment_text, deadlines::specs::Deadlines::moment), using(crate::proofs::Appended::both, crate::proofs::Hex::hex16_is))]
-    fn moment(&mut self, d: Deadline)
-        ensures { self.new ≡ T.appended self.old (T.moment_text (moment d)) }
+    #[tactic(auto, unfolding(crate::specs::Text::moment_text), using(crate::proofs::Appended::both, crate::proofs::Hex::hex16_is))]
+    fn moment(&mut self, due: Option<Time>)
+        ensures { self.new ≡ T.appended self.old (T.moment_text (moment due)) }
     {
-        match d {
-            Deadline::At(t) => {
+        match due {
+            Some(t) => {
                 self.hexes(&t.0.to_be_bytes());
                 self.put(b' ');
                 self.hexes(&t.1.to_be_bytes());
             }
-            Deadline::Never => self.word(b"-"),
+            None => self.word(b"-"),
         }
     }
 

@@ -14,7 +14,7 @@ use bma150::host::Bma150;
 use bma150::lent::{due_lent, pins_lent};
 use bma150::types::{Answered, Replied};
 use calls::table::is_accepted;
-use calls::types::{Call, Outcome, Refusal, Starting, Timed};
+use calls::types::{Call, Refusal, Starting, Timed};
 use commands::Command;
 use i2c::types::Levels;
 use time::Time;
@@ -22,19 +22,16 @@ use waits::types::Report;
 
 // What an accepted call adds; a refused one adds nothing.
 #[tactic(auto, unfolding(calls::specs::Table::number, calls::specs::Table::unless_refused), using(crate::proofs::Laws::refused_adds))]
-fn answer(outcome: Outcome, extra: Option<Extra>) -> Result<Option<Extra>, Refusal>
+fn answer(outcome: Result<(), Refusal>, extra: Option<Extra>) -> Result<Option<Extra>, Refusal>
     ensures number { L.answer_number result ≡ R.number outcome }
     ensures adds { L.answer_adds result ≡ L.unless_refused (R.number outcome) (L.adds extra) }
 {
-    match outcome {
-        Outcome::Accepted => Ok(extra),
-        Outcome::Refused(why) => Err(why),
-    }
+    outcome.map(|()| extra)
 }
 
 // A reply that adds nothing.
 #[tactic(auto, using(crate::proofs::Laws::nothing_unless))]
-fn silent(sensor: Bma150, outcome: Outcome) -> Reply
+fn silent(sensor: Bma150, outcome: Result<(), Refusal>) -> Reply
     ensures { L.replied result ≡ L.silent sensor (R.number outcome) }
 {
     Reply {
@@ -69,7 +66,7 @@ fn start(running: Bma150, by: Starting, when: Time, image: &[u8]) -> Reply
 
 // Supply and due calls report.
 #[tactic(auto, unfolding(crate::specs::Line::extra_adds, bma150::specs::Called::timed_adds))]
-fn timed_extra(t: Timed, report: Report) -> Option<Extra>
+fn timed_extra(t: Timed, report: Option<Report>) -> Option<Extra>
     ensures { L.adds result ≡ K.timed_adds t report }
 {
     matches!(t, Timed::Supply(_) | Timed::Due).then_some(Extra::Reported(report))
@@ -139,7 +136,7 @@ fn stored_image(sensor: Bma150, when: Time, length: usize) -> Reply
     ensures { L.replied result ≡ K.called sensor (Call.StoredImage when length) }
 {
     if length != 19 {
-        return silent(sensor, Outcome::Refused(Refusal::ImageLength));
+        return silent(sensor, Err(Refusal::ImageLength));
     }
     let mut image = [0; 19];
     let outcome = sensor.stored_image(when, &mut image);
@@ -155,8 +152,8 @@ fn host(sensor: Bma150, c: Call, lent: bool) -> Reply
 {
     match c {
         Call::At(t, what) => timed_either(sensor, t, what, lent),
-        Call::Temperature(x) => silent(sensor.temperature(x), Outcome::Accepted),
-        Call::Select(on) => silent(sensor.select(on), Outcome::Accepted),
+        Call::Temperature(x) => silent(sensor.temperature(x), Ok(())),
+        Call::Select(on) => silent(sensor.select(on), Ok(())),
         Call::View(address) => view(sensor, address),
         Call::StoredImage(t, n) => stored_image(sensor, t, n),
     }
@@ -171,6 +168,6 @@ pub(crate) fn serve(sensor: Bma150, c: Command, input: &[u8], lent: bool) -> Rep
     match c {
         Command::Start(by, t) => start(sensor, by, t, &input[13..32]),
         Command::Host(call) => host(sensor, call, lent),
-        Command::Bad => silent(sensor, Outcome::Refused(Refusal::Command)),
+        Command::Bad => silent(sensor, Err(Refusal::Command)),
     }
 }

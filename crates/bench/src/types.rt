@@ -1,14 +1,14 @@
 // What a command leaves and answers, before it is written.
 use bma150::host::Bma150;
 use calls::types::Refusal;
-use sensor::types::{Mark, View};
+use sensor::types::Mark;
 use waits::types::Report;
 
 // What a command adds to its line.
 #[derive(Clone, Copy)]
 pub enum Extra {
-    Reported(Report),
-    Viewed(View, Mark),
+    Reported(Option<Report>),
+    Viewed(Option<u8>, Option<Mark>),
     Image([u8; 19]),
 }
 
