@@ -7,13 +7,7 @@ ghost use Rattle.control.specs.Automatic as Automatic;
 pub fn holds(was_criterion: bool, latch: bool, criterion: bool) -> bool
     ensures { result ≡ Automatic.holds was_criterion latch criterion }
 {
-    if was_criterion {
-        return false;
-    }
-    if latch {
-        return false;
-    }
-    criterion
+    !was_criterion && !latch && criterion
 }
 
 // A sleep that no pause ends: the pause begins now.
@@ -21,15 +15,12 @@ pub fn holds(was_criterion: bool, latch: bool, criterion: bool) -> bool
 pub fn pauses_again(asleep: bool, pause_set: bool) -> bool
     ensures { result ≡ Automatic.pauses_again asleep pause_set }
 {
-    if asleep {
-        return !pause_set;
-    }
-    false
+    asleep && !pause_set
 }
 
 // What the sensor is doing: it sleeps, wakes, tests itself, copies its image, writes a cell, has valid samples, raises its
 // interrupt, verifies a criterion.
-#[derive(Clone, Copy)]
+#[derive(Clone, Copy, Debug, PartialEq, Eq)]
 pub struct Activity {
     pub asleep: bool,
     pub waking: bool,
@@ -46,29 +37,13 @@ pub struct Activity {
 pub fn may_pause(verify: bool, does: Activity) -> bool
     ensures { result ≡ Automatic.may_pause verify does }
 {
-    if !verify {
-        return false;
-    }
-    if does.asleep {
-        return false;
-    }
-    if does.waking {
-        return false;
-    }
-    if does.testing {
-        return false;
-    }
-    if does.copying {
-        return false;
-    }
-    if does.writing {
-        return false;
-    }
-    if !does.acquired {
-        return false;
-    }
-    if does.interrupt {
-        return false;
-    }
-    !does.verifying
+    verify
+        && !does.asleep
+        && !does.waking
+        && !does.testing
+        && !does.copying
+        && !does.writing
+        && does.acquired
+        && !does.interrupt
+        && !does.verifying
 }

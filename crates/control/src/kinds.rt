@@ -15,9 +15,10 @@ fn written_control(value: u8) -> WriteKind
     ensures { result ≡ Kinds.written_control value }
 {
     if has(value, SOFT_RESET) {
-        return WriteKind::Reset;
+        WriteKind::Reset
+    } else {
+        WriteKind::Control
     }
-    WriteKind::Control
 }
 
 // A write of a register that is taken.
@@ -25,23 +26,13 @@ fn written_control(value: u8) -> WriteKind
 fn written_register(address: u8, value: u8) -> WriteKind
     ensures { result ≡ Kinds.written_register address value }
 {
-    let i = address as usize;
-    if i == CONTROL {
-        return written_control(value);
+    match usize::from(address) {
+        CONTROL => written_control(value),
+        MEASUREMENT => WriteKind::Measurement,
+        OPERATION => WriteKind::Operation,
+        LG_DUR | HG_DUR => WriteKind::Durations,
+        _ => WriteKind::Plain,
     }
-    if i == MEASUREMENT {
-        return WriteKind::Measurement;
-    }
-    if i == OPERATION {
-        return WriteKind::Operation;
-    }
-    if i == LG_DUR {
-        return WriteKind::Durations;
-    }
-    if i == HG_DUR {
-        return WriteKind::Durations;
-    }
-    WriteKind::Plain
 }
 
 // What a write does; `running`: a stored write runs.
@@ -52,20 +43,19 @@ pub fn kind_of_write(address: u8, value: u8, gate: Gate, running: bool) -> Write
     if ignores(address, value, gate) {
         return WriteKind::Ignored;
     }
-    if stored(address) {
-        if running {
-            return WriteKind::Ignored;
-        }
-        return WriteKind::Stored;
+    match (stored(address), running) {
+        (true, true) => WriteKind::Ignored,
+        (true, false) => WriteKind::Stored,
+        (false, _) => written_register(address, value),
     }
-    written_register(address, value)
 }
 
 // What 0a keeps of a value.
+#[tactic(auto, using(std::proofs::lemmas::Nat::and_assoc))]
 pub fn kept(value: u8) -> u8
     ensures { result ≡ Kinds.kept value }
 {
-    value & 0xfd & 0xbf & 0x7f
+    value & 0x3d
 }
 
 // A write of 0a resets the interrupts.
@@ -80,13 +70,11 @@ pub fn resets_interrupts(value: u8) -> bool
 pub fn self_test(old: u8, value: u8) -> SelfTest
     ensures { result ≡ Kinds.self_test old value }
 {
-    if has(value, SELF_TEST_0) {
-        if has(old, SELF_TEST_0) {
-            return SelfTest::Stays;
-        }
-        return SelfTest::Starts;
+    match (has(old, SELF_TEST_0), has(value, SELF_TEST_0)) {
+        (false, true) => SelfTest::Starts,
+        (true, true) => SelfTest::Stays,
+        (_, false) => SelfTest::Stops,
     }
-    SelfTest::Stops
 }
 
 // A write of 0a wakes the sensor or puts it to sleep.
@@ -94,16 +82,11 @@ pub fn self_test(old: u8, value: u8) -> SelfTest
 pub fn sleep(asleep: bool, value: u8) -> Sleep
     ensures { result ≡ Kinds.sleep asleep value }
 {
-    if has(value, SLEEP) {
-        if asleep {
-            return Sleep::Stays;
-        }
-        return Sleep::Pauses;
+    match (asleep, has(value, SLEEP)) {
+        (true, false) => Sleep::Wakes,
+        (false, true) => Sleep::Pauses,
+        _ => Sleep::Stays,
     }
-    if asleep {
-        return Sleep::Wakes;
-    }
-    Sleep::Stays
 }
 
 // A write of 0a starts a copy of the stored image.
@@ -117,10 +100,5 @@ pub fn copies_image(value: u8) -> bool
 pub fn turns_automatic(old: u8, value: u8) -> bool
     ensures { result ≡ Kinds.turns_automatic old value }
 {
-    let was = has(old, WAKE_UP);
-    let is = has(value, WAKE_UP);
-    if was {
-        return !is;
-    }
-    is
+    has(old, WAKE_UP) != has(value, WAKE_UP)
 }

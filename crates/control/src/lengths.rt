@@ -5,19 +5,18 @@ ghost use Rattle.control.specs.Lengths as Lengths;
 use time::Duration;
 
 // The length of a scan of temperature and axes, a third of a millisecond, in units of 2^-64 s.
-const SCAN: u64 = 6148914691236517;
+const SCAN: u128 = (1 << 64) / 3000;
+
+// The low word of a number of units.
+const LOW: u128 = u64::MAX as u128;
 
 // From the start of acquisition to its first scan: the scan is part of the stated length.
 pub fn acquisition_delay(ready: Duration) -> Duration
     ensures { result ≡ Lengths.acquisition_delay ready }
 {
-    if SCAN <= ready.1 {
-        return Duration(ready.0, ready.1 - SCAN);
-    }
-    if ready.0 == 0 {
-        return Duration(0, 0);
-    }
-    Duration(ready.0 - 1, ready.1 + (u64::MAX - SCAN) + 1)
+    let stated = (ready.0 as u128) << 64 | ready.1 as u128;
+    let left = stated.saturating_sub(SCAN);
+    Duration((left >> 64) as u64, (left & LOW) as u64)
 }
 
 // The cycles from a wake to valid samples, by the filter's window.
@@ -26,9 +25,10 @@ pub fn acquisition_cycles(window: u8) -> u16
     ensures { result ≡ Lengths.acquisition_cycles window }
 {
     if window == 1 {
-        return 1;
+        1
+    } else {
+        2 * u16::from(window)
     }
-    2 * (window as u16)
 }
 
 // The pauses that wake_up_pause chooses from, in milliseconds.
@@ -49,6 +49,5 @@ pub fn needs() -> [u8; 4]
 pub fn pause_length(code: u8, pauses: [u16; 4]) -> Duration
     ensures { result ≡ Lengths.pause_length code pauses }
 {
-    let i = (code % 4) as usize;
-    Duration::from_millis(pauses[i] as u64)
+    Duration::from_millis(u64::from(pauses[usize::from(code % 4)]))
 }

@@ -1,5 +1,5 @@
 // What a write does, and what a write of 0a does to the self test and to sleep.
-#[derive(Clone, Copy)]
+#[derive(Clone, Copy, Debug, PartialEq, Eq)]
 pub enum WriteKind {
     Ignored,
     Stored,
@@ -11,14 +11,14 @@ pub enum WriteKind {
     Plain,
 }
 
-#[derive(Clone, Copy)]
+#[derive(Clone, Copy, Debug, PartialEq, Eq)]
 pub enum SelfTest {
     Starts,
     Stops,
     Stays,
 }
 
-#[derive(Clone, Copy)]
+#[derive(Clone, Copy, Debug, PartialEq, Eq)]
 pub enum Sleep {
     Wakes,
     Pauses,

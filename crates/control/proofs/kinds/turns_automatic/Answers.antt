@@ -1,19 +1,13 @@
-use mathlib.Core.Path.{◌≡◌, refl, sym, ◌∙◌}
-use mathlib.Core.Bool.{Bool, true, false, not, xor}
+use Rattle.std.proofs.Common.{◌≡◌, refl, Bool, true, false, not}
+use mathlib.Core.Bool.{beq, xor}
 use Rattle.control.proofs.kinds.turns_automatic.Goals as goal
 
-xor-true : (b : Bool) → not b ≡ xor true b
+differ : (a b : Bool) → not (beq a b) ≡ xor a b
 unfolding xor
-xor-true true = refl
-xor-true false = refl
-
-xor-false : (b : Bool) → b ≡ xor false b
-unfolding xor
-xor-false true = refl
-xor-false false = refl
-
-pub returns-then-was : goal.returns-then-was
-returns-then-was c = rw (sym c.has-was.ensures ∙ c.if-was.true, c.has-is.ensures) (xor-true _)
+differ true true = refl
+differ true false = refl
+differ false true = refl
+differ false false = refl
 
 pub returns : goal.returns
-returns c = rw (sym c.has-was.ensures ∙ c.if-was.false, c.has-is.ensures) (xor-false _)
+returns c = rw (c.has.ensures, c.has-2.ensures) (differ _ _)
