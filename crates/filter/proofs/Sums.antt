@@ -1,14 +1,15 @@
 -- Sums of codes: one more code, straight runs of a list and the window of a ring.
 use mathlib.Core.Path.{◌≡◌, refl, sym, ap, ◌∙◌}
 use mathlib.Core.List.{List, [], ◌∷◌}
-use Prim.Native.Nat.{ℕ, zero, suc, ◌+◌, ◌-◌, ◌*◌, ◌%◌, ◌^◌, ◌≤◌, ◌<◌}
+use Prim.Native.Nat.{ℕ, zero, suc, ◌+◌, ◌-◌, ◌*◌, ◌%◌, ◌^◌, ◌≤◌, ◌<◌, min}
 use native.Mathlib.Nat.{one-mul, add-zero, add-suc}
 use lib.Pow.{shl_exact, pow_mono, pow_pos}
 use native.Mathlib.Numerals.{add-one}
 use native.Mathlib.Omega.{arith}
 use lib.IntN.{ℤ, pos, ◌+ℤ◌, +ℤ_idl, +ℤ_idr, +ℤ_assoc, +ℤ_comm}
-use lib.ListN.{get_or, take, drop}
-use lib.Seq.{get_or-drop, take-nil}
+use lib.ListN.{get_or, take, drop, length}
+use Rattle.std.proofs.lemmas.List.{length-take}
+use lib.Seq.{take-nil}
 use lib.Signed.{mag, shr_z}
 use mir.Syntax.{w16, w32}
 use mir.Val.{to_z, of_z, SFits}
@@ -19,12 +20,6 @@ use Rattle.filter.specs.Mean.{tabulate, ring, sumZ}
 pub wide : {z : ℤ} → Reach z (2 ^ 15) → to_z w32 (of_z w32 (to_z w16 (of_z w16 z))) ≡ z
 wide r = rw (back w16 r tt, back w32 r tt)
 
--- one code more reaches at most 32768 further
-pub one_more : (a z : ℤ) (N : ℕ) → mag a ≤ N → Reach z (2 ^ 15) → mag (a +ℤ z) ≤ N + 32768
-one_more a z N p q =
-    let r : Reach a (N + 1) = record { reach = omega arith } in
-    omega (arith, (reach_add r q).reach)
-
 -- ---- a run of a list
 -- the sum of a list with one element more, or 0 past its end
 sum_take : (xs : List ℤ) (n : ℕ) → sumZ (take (suc n) xs) ≡ sumZ (take n xs) +ℤ get_or xs n (pos 0)
@@ -33,10 +28,6 @@ sum_take [] zero = refl
 sum_take [] (suc n) = refl
 sum_take (x ∷ xs) zero = +ℤ_idr x ∙ sym (+ℤ_idl x)
 sum_take (x ∷ xs) (suc n) = ap (λ (y : ℤ). x +ℤ y) (sum_take xs n) ∙ sym (+ℤ_assoc x (sumZ (take n xs)) (get_or xs n (pos 0)))
-
-pub sum_run : (h : List ℤ) (from n : ℕ) (s : ℤ)
-    → s +ℤ sumZ (take n (drop from h)) +ℤ get_or h (from + n) (pos 0) ≡ s +ℤ sumZ (take (n + 1) (drop from h))
-sum_run h from n s = rw (add-one, sum_take (drop from h) n, get_or-drop, +ℤ_assoc)
 
 -- the same run, from its end down
 take_suc_drop : (h : List ℤ) (from n : ℕ) → sumZ (take (suc n) (drop from h)) ≡ get_or h from (pos 0) +ℤ sumZ (take n (drop (suc from) h))
@@ -51,10 +42,6 @@ unfolding tabulate sumZ
 sum_tabulate zero f = +ℤ_idr (f 0) ∙ sym (+ℤ_idl (f 0))
 sum_tabulate (suc n) f = ap (λ (y : ℤ). f 0 +ℤ y) (sum_tabulate n (λ k. f (suc k))) ∙ sym (+ℤ_assoc (f 0) (sumZ (tabulate n (λ k. f (suc k)))) (f (suc n)))
 
-sum_tabulate_first : (n : ℕ) (f : ℕ → ℤ) → sumZ (tabulate (suc n) f) ≡ f 0 +ℤ sumZ (tabulate n (λ k. f (suc k)))
-unfolding tabulate sumZ
-sum_tabulate_first n f = refl
-
 -- n codes, of which the newest stands just below `top`
 pub run_down : (h : List ℤ) (top n : ℕ) (f : ℕ → ℤ) → n ≤ top → ((k : ℕ) → k < n → f k ≡ get_or h (top - suc k) (pos 0))
     → sumZ (tabulate n f) ≡ sumZ (take n (drop (top - n) h))
@@ -67,17 +54,26 @@ run_down h top (suc n) f p e =
     rw (take_suc_drop h (top - suc n) n, next) in
     sum_tabulate n f ∙ rw (below, e n (omega arith), first) (+ℤ_comm (sumZ (take n (drop (top - n) h))) (get_or h (top - suc n) (pos 0)))
 
--- one turn of the loop over a run: the sum that is stored, and how far it reaches
-module _ (s t : ℤ) {z : ℤ} (n : ℕ) (code : Reach z (2 ^ 15)) (few : mag s + n * 32768 + 32768 < 2 ^ 31)
-    (far : mag t ≤ mag s + n * 32768) where
-  reach : Reach (t +ℤ z) (2 ^ 31)
-  reach = record { reach = omega (arith, one_more t z (mag s + n * 32768) far code) }
+-- a sum of n codes and one more, z: it reaches from -32768 to 32767 a code
+one_more : (n : ℕ) (t z : ℤ) → (n ≡ 0 → t ≡ pos 0) → mag t ≤ n * 32768 - 1 → Reach z (2 ^ 15) → mag (t +ℤ z) ≤ (n + 1) * 32768 - 1
+one_more zero t z o p q = rw (o refl, +ℤ_idl z) (omega (arith, q.reach))
+one_more (suc n) t z o p q = let r : Reach t (suc n * 32768) = record { reach = omega arith } in omega (arith, (reach_add r q).reach)
 
-  pub turn_fits : SFits w32 (t +ℤ to_z w32 (of_z w32 (to_z w16 (of_z w16 z))))
-  turn_fits = rw (wide code) (holds reach tt)
+-- one turn of the loop over some codes: the sum with one more, and how far it reaches
+module _ (xs : List ℤ) (n : ℕ) (t : ℤ) (code : Reach (get_or xs n (pos 0)) (2 ^ 15)) (sum : t ≡ sumZ (take n xs)) (far : mag t ≤ n * 32768 - 1) (few : n < 64) where
+  none : n ≡ 0 → t ≡ pos 0
+  unfolding sumZ
+  none e = sum ∙ ap (λ (k : ℕ). sumZ (take k xs)) e
 
-  pub turn_back : to_z w32 (of_z w32 (t +ℤ to_z w32 (of_z w32 (to_z w16 (of_z w16 z))))) ≡ t +ℤ z
-  turn_back = rw (wide code, back w32 reach tt)
+  more : mag (t +ℤ get_or xs n (pos 0)) ≤ (n + 1) * 32768 - 1
+  more = one_more n t (get_or xs n (pos 0)) none far code
+
+  back_32 : to_z w32 (of_z w32 (t +ℤ to_z w32 (of_z w32 (to_z w16 (of_z w16 (get_or xs n (pos 0))))))) ≡ t +ℤ get_or xs n (pos 0)
+  back_32 = let r : Reach (t +ℤ get_or xs n (pos 0)) (2 ^ 31) = record { reach = omega (arith, more) } in rw (wide code, back w32 r tt)
+
+  pub turn : (to_z w32 (of_z w32 (t +ℤ to_z w32 (of_z w32 (to_z w16 (of_z w16 (get_or xs n (pos 0))))))) ≡ sumZ (take (n + 1) xs))
+      × (mag (to_z w32 (of_z w32 (t +ℤ to_z w32 (of_z w32 (to_z w16 (of_z w16 (get_or xs n (pos 0)))))))) ≤ (n + 1) * 32768 - 1)
+  turn = rw (back_32, add-one) (rw sum (sym (sum_take xs n)), omega (arith, more))
 
 -- ---- the window of a ring
 sum_split : (m n : ℕ) (f : ℕ → ℤ) → sumZ (tabulate (m + n) f) ≡ sumZ (tabulate m f) +ℤ sumZ (tabulate n (λ k. f (m + k)))
@@ -92,24 +88,59 @@ take_tabulate zero m f p = refl
 take_tabulate (suc n) zero f p = absurd (omega arith)
 take_tabulate (suc n) (suc m) f p = ap (λ (l : List ℤ). f 0 ∷ l) (take_tabulate n m (λ k. f (suc k)) (omega arith))
 
--- the newest code, those below its place, and those from the ring's end
-pub two_runs : (h : List ℤ) (base at below above : ℕ) → at < 64 → below ≤ at → (0 < above → below ≡ at) → below + above < 64
-    → sumZ (take (suc (below + above)) (ring h base at))
-    ≡ get_or h (base + at) (pos 0) +ℤ sumZ (take below (drop (base + at - below) h)) +ℤ sumZ (take above (drop (base + 64 - above) h))
+-- the codes at the newest one's place and below it, and those from the ring's end
+pub two_runs : (h : List ℤ) (base at near far : ℕ) → at < 64 → near ≤ at + 1 → (0 < far → near ≡ at + 1) → near + far ≤ 64
+    → sumZ (take (near + far) (ring h base at)) ≡ sumZ (take near (drop (base + at + 1 - near) h)) +ℤ sumZ (take far (drop (base + 64 - far) h))
 unfolding ring
-two_runs h base at below above l p q few =
+two_runs h base at near far l p q few =
     let f : ℕ → ℤ = λ k. get_or h (base + (at + 64 - k) % 64) (pos 0) in
-    let newest : f 0 ≡ get_or h (base + at) (pos 0) = ap (λ (n : ℕ). get_or h (base + n) (pos 0)) (omega arith) in
-    let run1 : sumZ (tabulate below (λ k. f (suc k))) ≡ sumZ (take below (drop (base + at - below) h)) =
-    run_down h (base + at) below (λ k. f (suc k)) (omega arith) (λ k r. ap (λ (n : ℕ). get_or h n (pos 0)) (omega arith)) in
-    let run2 : sumZ (tabulate above (λ k. f (suc (below + k)))) ≡ sumZ (take above (drop (base + 64 - above) h)) =
-    run_down h (base + 64) above (λ k. f (suc (below + k))) (omega arith) (λ k r. let e = q (omega arith) in ap (λ (n : ℕ). get_or h n (pos 0)) (omega arith)) in
-    rw (take_tabulate (suc (below + above)) 64 f (omega arith), sum_tabulate_first (below + above) f, sum_split below above (λ k. f (suc k)), newest, run1, run2)
-    (sym (+ℤ_assoc (get_or h (base + at) (pos 0)) _ _))
+    let run1 : sumZ (tabulate near f) ≡ sumZ (take near (drop (base + at + 1 - near) h)) =
+    run_down h (base + at + 1) near f (omega arith) (λ k r. ap (λ (n : ℕ). get_or h n (pos 0)) (omega arith)) in
+    let run2 : sumZ (tabulate far (λ k. f (near + k))) ≡ sumZ (take far (drop (base + 64 - far) h)) =
+    run_down h (base + 64) far (λ k. f (near + k)) (omega arith) (λ k r. let e = q (omega arith) in ap (λ (n : ℕ). get_or h n (pos 0)) (omega arith)) in
+    rw (take_tabulate (near + far) 64 f few, sum_split near far f, run1, run2)
 
--- ---- the window as the code has it, a shift of 1 in a byte
-pub window_is : (s : ℕ) → s ≤ 6 → 1 * 2 ^ s % 2 ^ 8 ≡ 2 ^ s
-window_is s p = shl_exact 1 s 8 (omega arith) (omega arith) ∙ one-mul (2 ^ s)
+-- the two sums of the code are that of the window
+module _ (h : List ℤ) (base at window near : ℕ) (b : base ≤ 128) (l : at < 64) (w : 1 ≤ window) (x : window ≤ 64) (e : near ≡ min window (at + 1)) (s t : ℤ) where
+  abbrev first : List ℤ
+  first = take (base + at + 1 - (base + at + 1 - near)) (drop (base + at + 1 - near) h)
+
+  abbrev second : List ℤ
+  second = take (base + 64 - (base + 64 - (window - near))) (drop (base + 64 - (window - near)) h)
+
+  module _ (p : s ≡ sumZ first) (q : mag s ≤ length first * 32768 - 1) (u : t ≡ sumZ second) (v : mag t ≤ length second * 32768 - 1) where
+    near_is : base + at + 1 - (base + at + 1 - near) ≡ near
+    near_is = omega arith
+
+    far_is : base + 64 - (base + 64 - (window - near)) ≡ window - near
+    far_is = omega arith
+
+    first_le : length first ≤ near
+    first_le = omega (arith, length-take (base + at + 1 - (base + at + 1 - near)) (drop (base + at + 1 - near) h))
+
+    second_le : length second ≤ window - near
+    second_le = omega (arith, length-take (base + 64 - (base + 64 - (window - near))) (drop (base + 64 - (window - near)) h))
+
+    no_second : (far : ℕ) → window - near ≡ far → far ≡ 0 → t ≡ pos 0
+    unfolding sumZ
+    no_second far d z = u ∙ rw (far_is, d, z)
+
+    both_le : (far : ℕ) → window - near ≡ far → mag (s +ℤ t) < window * 32768
+    both_le zero d = rw (no_second 0 d refl, +ℤ_idr s) (omega (arith, first_le))
+    both_le (suc far) d =
+        let m : Reach s (near * 32768) = record { reach = omega (arith, first_le) } in
+        let n : Reach t (suc far * 32768) = record { reach = omega (arith, second_le) } in
+        omega (arith, (reach_add m n).reach)
+
+    pub both : (s +ℤ t ≡ sumZ (take window (ring h base at))) × (mag (s +ℤ t) < window * 32768)
+    both =
+        let k : near + (window - near) ≡ window = omega arith in
+        let r = two_runs h base at near (window - near) l (omega arith) (λ z. omega arith) (omega arith) in
+        (rw (p, u, near_is, far_is) (sym r ∙ ap (λ (n : ℕ). sumZ (take n (ring h base at))) k), both_le (window - near) refl)
+
+-- ---- the window as the code has it, a shift of 1
+pub window_is : (s : ℕ) → s ≤ 6 → 1 * 2 ^ s % 2 ^ 64 ≡ 2 ^ s
+window_is s p = shl_exact 1 s 64 (omega arith) (omega arith) ∙ one-mul (2 ^ s)
 
 pub window_le : (s : ℕ) → s ≤ 6 → 2 ^ s ≤ 64
 window_le s p = pow_mono p

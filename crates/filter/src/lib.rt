@@ -1,10 +1,10 @@
 // The moving average of each axis over its last codes, for a window of 1 to 64.
 #![tactic(auto)]
 
-ghost use Rattle.std.specs.Prelude.{◌≡◌, ◌+◌, ◌-◌, ◌*◌, ◌^◌, ◌<◌, ◌≤◌, min, ◌+ℤ◌, take, drop};
+ghost use Rattle.std.specs.Prelude.{◌≡◌, ◌+◌, ◌-◌, ◌*◌, ◌^◌, ◌<◌, ◌≤◌, min, take, length};
 ghost use Rattle.std.specs.Int.Signed.{mag};
 ghost use Rattle.filter.specs.Mean.{ring, sumZ, mean};
-ghost use Rattle.filter.specs.Filter.{window_of, window, made, selected, pushed, full, answered};
+ghost use Rattle.filter.specs.Filter.{shift_of, window_of, window, made, selected, pushed, full, answered};
 
 // `history` holds the last 64 codes of each axis as a ring, axis * 64 and its place; `next` is the place that an axis
 // writes next and `count` how many codes it holds. The window is 2^shift.
@@ -24,6 +24,13 @@ pub struct Pushed {
     pub full: bool,
 }
 
+// The shift of a bandwidth code.
+fn shift_of(bandwidth: u8) -> u8
+    ensures { result ≡ shift_of bandwidth }
+{
+    6 - bandwidth.min(6)
+}
+
 // The window of a shift.
 fn window_of(shift: u8) -> u8
     ensures { result ≡ window_of shift }
@@ -38,14 +45,15 @@ fn counted(count: u8) -> u8
     count.saturating_add(1).min(64)
 }
 
-// `sum` and the n codes from `from` on.
-fn add_run(history: &[i16; 192], from: usize, n: usize, sum: i32) -> i32
-    requires { (from + n ≤ 192) × (mag sum + n * 32768 < 2 ^ 31) }
-    ensures { (result ≡ sum +ℤ sumZ (take n (drop from history.now))) × (mag result ≤ mag sum + n * 32768) }
+// The sum of some codes.
+#[tactic(auto, unfolding(crate::specs::Mean::sumZ))]
+fn sum_of(codes: &[i16]) -> i32
+    requires { length codes.now ≤ 64 }
+    ensures { (result ≡ sumZ codes.now) × (mag result ≤ length codes.now * 32768 - 1) }
 {
-    let mut total = sum;
-    for i in 0..n {
-        total += history[from + i] as i32;
+    let mut total = 0;
+    for code in codes {
+        total += *code as i32;
     }
     total
 }
@@ -56,10 +64,10 @@ fn window_sum(history: &[i16; 192], base: usize, at: usize, window: usize) -> i3
     requires { (base ≤ 128) × (at < 64) × (1 ≤ window) × (window ≤ 64) }
     ensures { (result ≡ sumZ (take window (ring history.now base at))) × (mag result < window * 32768) }
 {
-    let below = at.min(window - 1);
-    let above = window - 1 - below;
-    let sum = add_run(history, base + at - below, below, history[base + at] as i32);
-    add_run(history, base + 64 - above, above, sum)
+    let end = base + at + 1;
+    let near = window.min(at + 1);
+    let far = window - near;
+    sum_of(&history[end - near..end]) + sum_of(&history[base + 64 - far..base + 64])
 }
 
 // The floor of the mean of the last 2^shift codes of a ring.
@@ -67,8 +75,7 @@ fn mean_of(history: &[i16; 192], base: usize, at: usize, shift: u8) -> i16
     requires { (base ≤ 128) × (at < 64) × (shift ≤ 6) }
     ensures { result ≡ mean (2 ^ shift) (ring history.now base at) }
 {
-    let sum = window_sum(history, base, at, (1u8 << shift) as usize);
-    (sum >> shift) as i16
+    (window_sum(history, base, at, 1 << shift) >> shift) as i16
 }
 
 impl Filter {
@@ -80,7 +87,7 @@ impl Filter {
             history: [0; 192],
             next: [0; 3],
             count: [0; 3],
-            shift: 6 - bandwidth.min(6),
+            shift: shift_of(bandwidth),
         }
     }
 
@@ -95,7 +102,7 @@ impl Filter {
     pub fn select(self, bandwidth: u8) -> Filter
         ensures { result ≡ selected self bandwidth }
     {
-        let shift = 6 - bandwidth.min(6);
+        let shift = shift_of(bandwidth);
         Filter { shift, ..self }
     }
 
