@@ -14,8 +14,9 @@ use Rattle.time.specs.declared.Time.{Time}
 use Rattle.calls.specs.declared.types.Timed.TheVariants as Timed
 use Rattle.calls.specs.declared.types.Starting.{Starting}
 use Rattle.commands.specs.declared.Command.{Command}
-use Rattle.commands.specs.Decode.{part, number_at, signed, moment_at, byte_at, bit, levels, timed, start, image, accelerations, temperature, supply, due, select, rising, falling, pins, stored_image, view, decode_from_0c, decode_06_to_0b, decode_01_to_05, decoded, timed_size, call_size, size, is_bad}
+use Rattle.commands.specs.Decode.{part, number_at, signed, moment_at, byte_at, bit, levels, timed, start, image, accelerations, temperature, supply, due, select, rising, falling, pins, stored_image, view, opcode, named_by, decoded, timed_size, call_size, size, is_bad}
 use Rattle.commands.specs.Encode.{start_byte, bytes, time_bytes, complement, weighed, lines_byte, timed_bytes, call_bytes, encoded, TimeFits, SignedFits, TimedFits, CallFits, Fits}
+use Rattle.commands.proofs.Theorems.Named.{any_named}
 use Rattle.commands.proofs.Theorems.Laws.{number_more, part_more}
 use Rattle.printed.specs.Commands.{Bytes}
 
@@ -241,21 +242,11 @@ module _ (b : ℕ) (m : List ℕ) (all : Bytes (b ∷ m)) where
 
   -- ---- any command
 
-  named_back : Back (decode_01_to_05 b l)
-  unfolding decode_01_to_05 decode_06_to_0b decode_from_0c start_byte
+  named_back : Back (named_by (opcode b) l)
+  unfolding start_byte
   named_back =
-      is_byte b 0x01 _ _ (start_back Starting.Checked)
-      (is_byte b 0x02 _ _ accelerations_back
-      (is_byte b 0x03 _ _ temperature_back
-      (is_byte b 0x04 _ _ supply_back
-      (is_byte b 0x05 _ _ due_back
-      (is_byte b 0x06 _ _ select_back
-      (is_byte b 0x07 _ _ rising_back
-      (is_byte b 0x08 _ _ falling_back
-      (is_byte b 0x09 _ _ pins_back
-      (is_byte b 0x0a _ _ stored_image_back
-      (is_byte b 0x0b _ _ view_back
-      (is_byte b 0x0c _ _ (start_back Starting.Stored) bad_back)))))))))))
+      any_named b l Back (start_back Starting.Checked) accelerations_back temperature_back supply_back due_back select_back rising_back falling_back pins_back
+      stored_image_back view_back (start_back Starting.Stored) bad_back
 
   pub written_back : Back (decoded l)
   unfolding decoded
