@@ -2,7 +2,7 @@
 use i2c::types::State;
 use registers::access::{Gate, ignores, stored, withheld};
 use registers::fields::{SOFT_RESET, SPI4, has};
-use spi::types::{Drive, Frame };
+use spi::types::{Drive, Frame};
 
 // `operation` is the stored byte of register 15. `awake`: no soft reset since the start, so a sample is next. `consumed`,
 // `hidden` and `viewed` are what the last event answers beside the pins.
@@ -66,13 +66,6 @@ pub(crate) fn start(operation: u8) -> Sensor {
     }
 }
 
-fn is_nothing(tx: Option<u8>) -> bool {
-    match tx {
-        None => true,
-        Some(_) => false,
-    }
-}
-
 // The number of a drive: floating, low, high.
 fn drive_number(d: Drive) -> u8 {
     match d {
@@ -83,25 +76,10 @@ fn drive_number(d: Drive) -> u8 {
 }
 
 fn weigh(x: bool, weight: u8) -> u8 {
-    if x {
-        return weight;
-    }
-    0
+    if x { weight } else { 0 }
 }
 
 impl Sensor {
-    pub(crate) fn with_i2c(self, i2c: State) -> Sensor {
-        let mut s = self;
-        s.i2c = i2c;
-        s
-    }
-
-    pub(crate) fn with_frame(self, frame: Frame) -> Sensor {
-        let mut s = self;
-        s.frame = frame;
-        s
-    }
-
     pub(crate) fn four_wire(self) -> bool {
         has(self.registers[0x15], SPI4)
     }
@@ -121,64 +99,42 @@ impl Sensor {
         if withheld(address, self.gate()) {
             return None;
         }
-        if 62 <= address {
-            return None;
-        }
-        Some(self.registers[address as usize])
+        self.registers.get(address as usize).copied()
     }
 
     // The first bit of a register's byte is taken: new_data of its axis clears.
-    pub(crate) fn noted(self, address: u8) -> Sensor {
-        let mut s = self;
-        let f = self.frame;
-        let tx = f.tx;
-        if is_nothing(tx) {
-            return s;
+    pub(crate) fn noted(mut self, address: u8) -> Sensor {
+        if self.frame.tx.is_some() && !self.quiet && (2..=7).contains(&address) {
+            let low = (address - address % 2) as usize;
+            self.registers[low] &= 0xfe;
         }
-        if self.quiet {
-            return s;
-        }
-        if address < 2 {
-            return s;
-        }
-        if 7 < address {
-            return s;
-        }
-        let low = (address - address % 2) as usize;
-        s.registers[low] = s.registers[low] & 0xfe;
-        s
+        self
     }
 
     fn reset(self) -> Sensor {
-        let f = self.frame;
-        let g = f.sending(None);
+        let frame = self.frame.sending(None).released();
         Sensor {
             i2c: State::new(),
-            frame: g.released(),
+            frame,
             registers: reloaded(self.operation),
-            operation: self.operation,
             quiet: true,
             awake: false,
-            consumed: self.consumed,
             hidden: false,
             viewed: 0,
+            ..self
         }
     }
 
-    fn stored_at(self, address: u8, value: u8) -> Sensor {
-        let mut s = self;
+    fn stored_at(mut self, address: u8, value: u8) -> Sensor {
         if address < 62 {
-            s.registers[address as usize] = value;
+            self.registers[address as usize] = value;
         }
-        s
+        self
     }
 
     // A write to a register.
     pub(crate) fn written(self, address: u8, value: u8) -> Sensor {
-        if ignores(address, value, self.gate()) {
-            return self;
-        }
-        if stored(address) {
+        if ignores(address, value, self.gate()) || stored(address) {
             return self;
         }
         if address != 0x0a {
@@ -191,34 +147,22 @@ impl Sensor {
     }
 
     fn driven(self) -> u8 {
-        let f = self.frame;
-        let d = f.driven;
-        if !f.selected {
-            return 0;
+        if self.frame.selected && !self.quiet {
+            drive_number(self.frame.driven)
+        } else {
+            0
         }
-        if self.quiet {
-            return 0;
-        }
-        drive_number(d)
     }
 
     fn output(self) -> u8 {
-        if !self.four_wire() {
-            return 0;
-        }
-        self.driven()
+        if self.four_wire() { self.driven() } else { 0 }
     }
 
     fn data_output(self) -> u8 {
-        let f = self.frame;
-        let i = self.i2c;
-        if !f.selected {
-            return weigh(i.low, 1);
+        if !self.frame.selected {
+            return weigh(self.i2c.low, 1);
         }
-        if self.four_wire() {
-            return 0;
-        }
-        self.driven()
+        if self.four_wire() { 0 } else { self.driven() }
     }
 
     // Both outputs, and what the last event told.

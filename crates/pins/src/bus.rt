@@ -4,51 +4,45 @@
 use crate::both::{Sensor, start};
 use i2c::types::{Action, Levels};
 use registers::fields::has;
-use spi::types::{Clocked, Shift, Write};
+use spi::types::{Clocked, Shift};
 
 // The byte that I2C sends: ones where there is none.
 fn sent_byte(tx: Option<u8>) -> u8 {
-    match tx {
-        None => 0xff,
-        Some(b) => b,
-    }
+    tx.unwrap_or(0xff)
 }
 
 fn nothing_told(s: Sensor) -> Sensor {
-    let mut t = s;
-    t.consumed = false;
-    t.hidden = false;
-    t.viewed = 0;
-    t
-}
-
-// Whether converted values were used, which shows only while a sample is next.
-fn told(s: Sensor, consumes: bool) -> Sensor {
-    let mut t = s;
-    if s.awake {
-        t.consumed = consumes;
+    Sensor {
+        consumed: false,
+        hidden: false,
+        viewed: 0,
+        ..s
     }
-    t
 }
 
 impl Sensor {
-    fn launched(self, address: u8) -> Sensor {
+    // Whether converted values were used, which shows only while a sample is next.
+    fn told(self, consumes: bool) -> Sensor {
+        let consumed = if self.awake { consumes } else { self.consumed };
+        Sensor { consumed, ..self }
+    }
+
+    fn launched(mut self, address: u8) -> Sensor {
         let tx = self.fetched(address);
-        let f = self.frame;
-        let i = self.i2c;
-        let s = self.with_frame(f.sending(tx));
-        s.with_i2c(i.launched(sent_byte(tx)))
+        self.frame = self.frame.sending(tx);
+        self.i2c = self.i2c.launched(sent_byte(tx));
+        self
     }
 
     fn i2c_written(self, address: u8, value: u8) -> Sensor {
-        let s = self.written(address, value);
-        let i = s.i2c;
-        s.with_i2c(i.written(s.quiet))
+        let mut s = self.written(address, value);
+        s.i2c = s.i2c.written(s.quiet);
+        s
     }
 
-    fn dropped(self) -> Sensor {
-        let f = self.frame;
-        self.with_frame(f.sending(None))
+    fn dropped(mut self) -> Sensor {
+        self.frame = self.frame.sending(None);
+        self
     }
 
     fn acted(self, action: Action) -> Sensor {
@@ -61,19 +55,16 @@ impl Sensor {
         }
     }
 
-    fn reported(self, before: Levels, after: Levels) -> Sensor {
-        let f = self.frame;
-        let i = self.i2c;
-        let tx = f.tx;
-        if f.selected {
-            return self.with_i2c(i.abort());
+    fn reported(mut self, before: Levels, after: Levels) -> Sensor {
+        if self.frame.selected {
+            self.i2c = self.i2c.abort();
+            return self;
         }
-        let s = told(self, !self.quiet && i.consumes_conversion(before, after));
-        let step = i.step(before, after, self.quiet, sent_byte(tx));
-        let next = step.state;
-        let action = step.action;
-        let t = s.with_i2c(next);
-        t.acted(action)
+        let mut s = self.told(!self.quiet && self.i2c.consumes_conversion(before, after));
+        let sent = sent_byte(s.frame.tx);
+        let step = s.i2c.step(before, after, s.quiet, sent);
+        s.i2c = step.state;
+        s.acted(step.action)
     }
 
     fn report(self, e: u8) -> Sensor {
@@ -88,109 +79,85 @@ impl Sensor {
         self.reported(before, after)
     }
 
-    fn select(self, selected: bool) -> Sensor {
-        let f = self.frame;
-        let i = self.i2c;
-        if f.changes(selected) {
-            let s = self.with_i2c(i.abort());
-            return s.with_frame(f.select(selected));
+    fn select(mut self, selected: bool) -> Sensor {
+        if self.frame.changes(selected) {
+            self.i2c = self.i2c.abort();
+            self.frame = self.frame.select(selected);
         }
         self
     }
 
     // The output at an edge.
-    fn shifted(self, at: Clocked) -> Sensor {
-        let f = self.frame;
-        let tx = f.tx;
-        let shift = f.shifts(at, self.four_wire());
-        match shift {
-            Shift::Stay => self,
-            Shift::Fetch(a) => self.with_frame(f.shifted(self.fetched(a))),
-            Shift::Next => self.with_frame(f.shifted(tx)),
+    fn shifted(mut self, at: Clocked) -> Sensor {
+        match self.frame.shifts(at, self.four_wire()) {
+            Shift::Stay => {}
+            Shift::Fetch(a) => self.frame = self.frame.shifted(self.fetched(a)),
+            Shift::Next => self.frame = self.frame.shifted(self.frame.tx),
         }
+        self
     }
 
     fn acknowledged(self) -> Sensor {
-        let f = self.frame;
-        let a = f.first_bit();
-        match a {
-            None => self,
+        match self.frame.first_bit() {
             Some(address) => self.noted(address),
+            None => self,
         }
     }
 
-    fn spi_written(self, w: Option<(u8, u8)>) -> Sensor {
-        match w {
+    fn spi_written(self, write: Option<(u8, u8)>) -> Sensor {
+        match write {
+            Some((address, value)) => self.written(address, value),
             None => self,
-            Some((a, v)) => self.written(a, v),
         }
     }
 
     // A bit is taken.
     fn taken(self, mosi: bool) -> Sensor {
-        let s = self.acknowledged();
-        let f = s.frame;
-        let t = f.take_bit(mosi, s.four_wire());
-        let g = t.frame;
-        let w = t.write;
-        let u = s.with_frame(g);
-        let v = u.spi_written(w);
-        v.shifted(Clocked::Rise)
+        let mut s = self.acknowledged();
+        let taken = s.frame.take_bit(mosi, s.four_wire());
+        s.frame = taken.frame;
+        s.spi_written(taken.write).shifted(Clocked::Rise)
     }
 
     fn rise(self, mosi: bool) -> Sensor {
-        let f = self.frame;
-        if !f.selected {
+        if !self.frame.selected || self.quiet {
             return self;
         }
-        if self.quiet {
-            return self;
-        }
-        let s = told(self, f.consumes_at_rise());
-        if f.turnaround {
-            let t = s.with_frame(f.turned());
-            return t.shifted(Clocked::Turnaround);
+        let mut s = self.told(self.frame.consumes_at_rise());
+        if s.frame.turnaround {
+            s.frame = s.frame.turned();
+            return s.shifted(Clocked::Turnaround);
         }
         s.taken(mosi)
     }
 
     fn fall(self) -> Sensor {
-        let f = self.frame;
-        if f.selected {
-            let consumes = !self.quiet && f.consumes_at_fall(self.four_wire());
-            let s = told(self, consumes);
-            return s.shifted(Clocked::Fall);
+        if self.frame.selected {
+            let consumes = !self.quiet && self.frame.consumes_at_fall(self.four_wire());
+            return self.told(consumes).shifted(Clocked::Fall);
         }
         self.shifted(Clocked::Fall)
     }
 
-    fn view(self, address: u8) -> Sensor {
-        let mut s = self;
-        let seen = self.fetched(address);
-        match seen {
-            None => {
-                s.hidden = true;
-                s
-            }
-            Some(b) => {
-                s.viewed = b;
-                s
-            }
+    fn view(mut self, address: u8) -> Sensor {
+        match self.fetched(address) {
+            Some(b) => self.viewed = b,
+            None => self.hidden = true,
         }
+        self
     }
 
     fn ended(self) -> Sensor {
-        let mut s = self;
-        s.quiet = false;
-        s
+        Sensor {
+            quiet: false,
+            ..self
+        }
     }
 
     pub(crate) fn event(self, e: u8) -> Sensor {
         let s = nothing_told(self);
-        if e < 0x10 {
-            return s.report(e);
-        }
         match e {
+            0x00..=0x0f => s.report(e),
             0x10 => s.select(false),
             0x11 => s.select(true),
             0x20 => s.rise(false),
@@ -199,7 +166,7 @@ impl Sensor {
             0x40 => s.ended(),
             0x60 => start(0x88),
             0x61 => start(0x08),
-            128..=255 => s.view(e % 128),
+            0x80..=0xff => s.view(e % 128),
             _ => s,
         }
     }
