@@ -41,21 +41,28 @@ const FIRST: Series = Series {
     ti: 0,
 };
 
+// An angle of at most a sixteenth, at which the series is good.
+#[derive(Clone, Copy)]
+pub(crate) struct Angle {
+    pub(crate) size: u64,
+    ghost small: { size ≤ 2 ^ 44 },
+}
+
 // A product of the series by 2^48 · n, rounded: by 2^48 and then by n, of 64 bits. `round` of both at once divides by a
 // variable in 128 bits, and a setting that moves takes twice the time.
-fn share(x: i64, angle: u64, n: u64) -> i64
-    requires { (unsigned_abs x ≤ 2 ^ 50) × (angle ≤ 2 ^ 44) × (0 < n) × (n ≤ 12) }
-    ensures { (result ≡ R.round (x *ℤ pos angle) (D.unit * n)) × (unsigned_abs result ≤ 2 ^ 47) }
+fn share(x: i64, angle: Angle, n: u64) -> i64
+    requires { (unsigned_abs x ≤ 2 ^ 50) × (0 < n) × (n ≤ 12) }
+    ensures { (result ≡ R.round (x *ℤ pos angle.size) (D.unit * n)) × (unsigned_abs result ≤ 2 ^ 47) }
 {
-    let p = away(x as i128 * angle as i128, n * (Q / 2));
+    let p = away(x as i128 * angle.size as i128, n * (Q / 2));
     (p / Q as i128) as i64 / n as i64
 }
 
 // The next term of the series, and the sums with it.
 #[tactic(auto, unfolding(crate::specs::Decay::term))]
-fn term(s: Series, angle: u64, n: u64) -> Series
-    requires { (unsigned_abs s.tr ≤ 2 ^ 48) × (unsigned_abs s.ti ≤ 2 ^ 48) × (unsigned_abs s.re ≤ 13 * 2 ^ 48) × (unsigned_abs s.im ≤ 13 * 2 ^ 48) × (angle ≤ 2 ^ 44) × (0 < n) × (n ≤ 12) }
-    ensures { result ≡ D.term angle n s }
+fn term(s: Series, angle: Angle, n: u64) -> Series
+    requires { (unsigned_abs s.tr ≤ 2 ^ 48) × (unsigned_abs s.ti ≤ 2 ^ 48) × (unsigned_abs s.re ≤ 13 * 2 ^ 48) × (unsigned_abs s.im ≤ 13 * 2 ^ 48) × (0 < n) × (n ≤ 12) }
+    ensures { result ≡ D.term angle.size n s }
 {
     let tr = share(-s.tr - s.ti, angle, n);
     let ti = share(s.tr - s.ti, angle, n);
@@ -69,9 +76,8 @@ fn term(s: Series, angle: u64, n: u64) -> Series
 
 // The sum of the first twelve terms.
 #[tactic(auto, unfolding(crate::specs::Decay::terms))]
-fn series(angle: u64) -> Factors
-    requires { angle ≤ 2 ^ 44 }
-    ensures { result ≡ D.series angle }
+fn series(angle: Angle) -> Factors
+    ensures { result ≡ D.series angle.size }
 {
     let mut s = FIRST;
     for n in 1..13 {
@@ -94,17 +100,17 @@ fn square(f: Factors) -> Factors
 }
 
 // An angle, halved until it is at most a sixteenth, and how many times.
-fn halved(angle: u64) -> (u64, u8)
+fn halved(angle: u64) -> (Angle, u8)
     requires { angle < 2 ^ 54 }
-    ensures { (D.reduced D.most_halvings angle ≡ iterate result.1 D.squared (D.series result.0)) × (result.0 ≤ 2 ^ 44) × (result.1 ≤ 10) × (result.1 ≡ 0 ⊎ 2 ^ 43 ≤ result.0) }
+    ensures { (D.reduced D.most_halvings angle ≡ iterate result.1 D.squared (D.series result.0.size)) × (result.1 ≤ 10) × (result.1 ≡ 0 ⊎ 2 ^ 43 ≤ result.0.size) }
 {
-    let mut a = angle;
+    let mut size = angle;
     let mut squares = 0;
-    while a > Q / 16 {
-        a /= 2;
+    while size > Q / 16 {
+        size /= 2;
         squares += 1;
     }
-    (a, squares)
+    (Angle { size }, squares)
 }
 
 // Squared so many times.

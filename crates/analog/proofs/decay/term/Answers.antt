@@ -14,8 +14,8 @@ returns c =
     let up = read_64 (minus (read_64 tr tt) ti) tt in
     let t = itself c.share-tr.result (2 ^ 47) c.share-tr.ensures.1 in
     let u = itself c.share-ti.result (2 ^ 47) c.share-ti.ensures.1 in
-    let e = c.share-tr.ensures.0 ∙ ap (λ (z : ℤ). round (z *ℤ pos x.angle) (unit * x.n)) down.is in
-    let f = c.share-ti.ensures.0 ∙ ap (λ (z : ℤ). round (z *ℤ pos x.angle) (unit * x.n)) up.is in
+    let e = c.share-tr.ensures.0 ∙ ap (λ (z : ℤ). round (z *ℤ pos x.angle.size) (unit * x.n)) down.is in
+    let f = c.share-ti.ensures.0 ∙ ap (λ (z : ℤ). round (z *ℤ pos x.angle.size) (unit * x.n)) up.is in
     let re = read_64 (plus (read_64 (itself s.re (13 * 2 ^ 48) p.2) tt) (read_64 t tt)) tt in
     let im = read_64 (plus (read_64 (itself s.im (13 * 2 ^ 48) p.3) tt) (read_64 u tt)) tt in
     λ i. record {
