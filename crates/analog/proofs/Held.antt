@@ -1,6 +1,6 @@
 -- The code's numbers: x, as goals write it, is the number z that the definitions name, of a size of at most N.
 use Rattle.std.specs.Prelude.{int_lt, if◌then◌else◌}
-use Rattle.std.proofs.Common.{Bool, true, false, le_refl, ◌≡◌, ℕ, suc, negsuc, arith, lit≤, w32, ◌+◌, ◌*◌, ◌/◌, ◌^◌, ◌<◌, ◌≤◌, T, leb, leb→le, ltb, ltb→lt, le_trans, ℤ, pos, ◌+ℤ◌, ◌-ℤ◌, ◌*ℤ◌, nat_abs, ap, refl, ◌∙◌, lt_of_le_of_lt, w64, FitsSigned, to_z, of_z}
+use Rattle.std.proofs.Common.{Bool, true, false, le_refl, ◌≡◌, ℕ, suc, negsuc, arith, lit≤, w32, ◌+◌, ◌*◌, ◌/◌, ◌^◌, ◌<◌, ◌≤◌, T, leb, leb→le, ltb, ltb→lt, le_trans, le_of_lt, ℤ, pos, ◌+ℤ◌, ◌-ℤ◌, ◌*ℤ◌, nat_abs, ap, refl, ◌∙◌, lt_of_le_of_lt, w64, FitsSigned, to_z, of_z}
 use lib.IntN.{neg_ℤ, +ℤ_idl}
 use lib.Signed.{mag, quot_z}
 use mir.Syntax.{w128}
@@ -107,3 +107,7 @@ aimed input y f e =
     let k = to_z-of_z w32 input f in
     let l : nat_abs input ≤ 2 ^ 31 = le_trans (abs_mag input) f.sfits in
     record { is = e ∙ ap target k; le = abs_mul_le input (pos signal) (2 ^ 31) (2 ^ 24) l (lit≤ tt) }
+
+-- a part of the factors, widened
+pub part : (z : ℤ) → nat_abs z < 2 ^ 56 → Is (wide (word z)) z (2 ^ 56)
+part z p = read (read_64 (itself z (2 ^ 56) (le_of_lt p)) tt) tt

@@ -15,9 +15,10 @@ const SIGNAL: u64 = 1 << 24;
 fn target_of(input: i32) -> i64
     ensures { result ≡ Ax.target input }
 {
-    (input as i64) * (SIGNAL as i64)
+    input as i64 * SIGNAL as i64
 }
 
+// It stands still on the input.
 fn settled(a: Axis, input: i32) -> bool
     ensures { result ≡ Ax.settled a input }
 {

@@ -16,7 +16,8 @@ pub struct Analog {
     pub z: Axis,
 }
 
-// What remains after a step: a complex number with 48 bits after the point.
+// What remains after a step: a complex number with 48 bits after the point. That both parts are small, `Below`, is no
+// ghost field: the definitions of specs/ make factors of any two numbers.
 #[derive(Clone, Copy, Debug, PartialEq, Eq)]
 pub struct Factors {
     pub re: i64,

@@ -1,4 +1,4 @@
-use Rattle.std.proofs.Common.{◌≡◌, ◌+◌, ◌*◌, ◌/◌, ◌^◌, ℤ, pos, ◌+ℤ◌, ◌-ℤ◌, ◌*ℤ◌, ap, ◌∙◌, le_of_lt, arith, lit<, lit≤, w32, w64, FitsSigned, to_z, of_z}
+use Rattle.std.proofs.Common.{◌≡◌, ◌+◌, ◌*◌, ◌/◌, ◌^◌, ℤ, pos, ◌+ℤ◌, ◌-ℤ◌, ◌*ℤ◌, ap, ◌∙◌, arith, lit<, lit≤, w32, w64, FitsSigned, to_z, of_z}
 use Rattle.std.proofs.lemmas.Int.{to_z-of_z}
 use Rattle.analog.specs.declared.types.Axis.{Axis}
 use Rattle.analog.specs.declared.types.Factors.{Factors}
@@ -6,7 +6,7 @@ use Rattle.analog.specs.Round.{round, low_64}
 use Rattle.analog.specs.Decay.{unit}
 use Rattle.analog.specs.Axis.{target, stepped}
 use Rattle.analog.specs.Theorems.Bounds.{Below}
-use Rattle.analog.proofs.Held.{wide, word, Is, itself, plus, minus, times, fits, read, read_64, within, rounded, stored, aimed}
+use Rattle.analog.proofs.Held.{wide, word, Is, itself, plus, minus, times, fits, read, read_64, within, rounded, stored, aimed, part}
 use Rattle.analog.proofs.axis.step.Goals as goal
 
 -- the code's numbers: factors f, output o, velocity v and target t, which is held as y
@@ -22,10 +22,10 @@ numbers f a input y p fo fv fi e = record { factors = p; output = fo; velocity =
 
 module _ {f : Factors} {o v t y : ℤ} (s : Numbers f o v t y) where
   re : Is (wide (word f.re)) f.re (2 ^ 56)
-  re = read (read_64 (itself f.re (2 ^ 56) (le_of_lt s.factors.0)) tt) tt
+  re = part f.re s.factors.0
 
   im : Is (wide (word f.im)) f.im (2 ^ 56)
-  im = read (read_64 (itself f.im (2 ^ 56) (le_of_lt s.factors.1)) tt) tt
+  im = part f.im s.factors.1
 
   aim : Is (wide (word y)) t (2 ^ 55)
   aim = read (read_64 s.aim tt) tt

@@ -3,25 +3,19 @@ use Rattle.analog.specs.declared.types.Factors.{Factors}
 use Rattle.analog.specs.Round.{round}
 use Rattle.analog.specs.Decay.{unit, squared}
 use Rattle.analog.specs.Theorems.Bounds.{Below}
-use Rattle.analog.proofs.Held.{wide, word, Is, itself, minus, times, fits, read, read_64, fits_64, within, rounded}
+use Rattle.analog.proofs.Held.{wide, word, Is, itself, minus, times, fits, read, read_64, fits_64, within, rounded, part}
 use Rattle.analog.proofs.decay.square.Goals as goal
 
 module _ (f : Factors) (p : Below f) where
-  re : Is (wide (word f.re)) f.re (2 ^ 56)
-  re = read (read_64 (itself f.re (2 ^ 56) (le_of_lt p.0)) tt) tt
-
-  im : Is (wide (word f.im)) f.im (2 ^ 56)
-  im = read (read_64 (itself f.im (2 ^ 56) (le_of_lt p.1)) tt) tt
-
   -- the two dividends
   difference : Is (wide (wide (word f.re) *ℤ wide (word f.re)) -ℤ wide (wide (word f.im) *ℤ wide (word f.im))) (f.re *ℤ f.re -ℤ f.im *ℤ f.im) (2 ^ 113)
-  difference = minus (read (times re re) tt) (read (times im im) tt)
+  difference = let re = part f.re p.0 in let im = part f.im p.1 in minus (read (times re re) tt) (read (times im im) tt)
 
   two : Is (pos 2 *ℤ wide (word f.re)) (pos 2 *ℤ f.re) (2 ^ 57)
-  two = times (itself (pos 2) 2 (lit≤ tt)) re
+  two = times (itself (pos 2) 2 (lit≤ tt)) (part f.re p.0)
 
   twice : Is (wide (pos 2 *ℤ wide (word f.re)) *ℤ wide (word f.im)) (pos 2 *ℤ f.re *ℤ f.im) (2 ^ 113)
-  twice = times (read two tt) im
+  twice = times (read two tt) (part f.im p.1)
 
   -- what `round` returns of them
   module _ (q : Below (squared f)) (r : ℤ) where
