@@ -6,7 +6,6 @@ ghost use Rattle.std.proofs.lemmas.List.Edits.{sets};
 ghost use Rattle.machine.specs.Put.{Put};
 ghost use Rattle.bench.specs.Block as B;
 
-use crate::lines::line;
 use crate::steps::serve;
 use crate::text::Line;
 use bma150::host::Bma150;
@@ -57,32 +56,33 @@ fn store(out: &mut [u8; 65536], at: usize, line: &Line) -> usize
 }
 
 // The commands of a block of input, while a whole one is left and a line fits.
-pub fn run(input: &[u8], over: bool, trace: bool, out: &mut [u8; 65536], sensor: Bma150) -> Ran
+pub fn run(input: &[u8], over: bool, trace: bool, out: &mut [u8; 65536], mut sensor: Bma150) -> Ran
     ensures value { result ≡ B.answer (length input.now) (B.block trace over sensor input.now) }
     ensures out_after { out.new ≡ sets out.old 0 (B.block trace over sensor input.now).text }
     ensures input_value { (B.block trace over sensor input.now).left ≡ drop result.read input.now }
     ensures read_in_bounds { (result.read ≤ length input.now) × (result.written ≤ 65536) }
 {
-    let mut ran = Ran {
-        sensor,
-        read: 0,
-        written: 0,
-        stop: false,
-    };
+    let mut read = 0;
+    let mut written = 0;
+    let mut stop = false;
     let mut lent = false;
-    while !ran.stop && ran.written <= 65408 && is_whole(input, ran.read, over) {
-        let b = input[ran.read];
-        let left = &input[ran.read..];
+    while !stop && written <= 65408 && is_whole(input, read, over) {
+        let b = input[read];
+        let left = &input[read..];
         let command = decode(left, 0);
-        let reply = serve(ran.sensor, command, left, lent);
-        let text = line(trace, b, &reply);
-        ran = Ran {
-            sensor: reply.sensor,
-            read: ran.read + size(command),
-            written: store(out, ran.written, &text),
-            stop: is_bad(command),
-        };
+        let reply = serve(sensor, command, left, lent);
+        let mut line = Line::new();
+        line.reply(trace, b, reply);
+        sensor = reply.sensor;
+        read += size(command);
+        written = store(out, written, &line);
+        stop = is_bad(command);
         lent = turned(trace, lent, b);
     }
-    ran
+    Ran {
+        sensor,
+        read,
+        written,
+        stop,
+    }
 }

@@ -177,20 +177,19 @@ impl Line {
             self.moment(s.next_due());
         }
     }
-}
 
-// The line of a command that begins with b.
-#[tactic(auto, unfolding(crate::specs::Line::line), using(crate::proofs::Appended::both))]
-pub(crate) fn line(trace: bool, b: u8, reply: &Reply) -> Line
-    ensures { result ≡ L.line trace b (L.replied reply.now) }
-{
-    let mut line = Line::new();
-    line.hex(b);
-    line.put(b' ');
-    line.answer(reply.answer);
-    line.word(&pins(reply.sensor));
-    line.added(reply.answer);
-    line.due(trace, reply.sensor);
-    line.put(b'\n');
-    line
+    // The line of a command that begins with b.
+    #[tactic(auto, unfolding(crate::specs::Line::line))]
+    pub(crate) fn reply(&mut self, trace: bool, b: u8, reply: Reply)
+        requires { self.old ≡ [] }
+        ensures { self.new ≡ L.line trace b (L.replied reply) }
+    {
+        self.hex(b);
+        self.put(b' ');
+        self.answer(reply.answer);
+        self.word(&pins(reply.sensor));
+        self.added(reply.answer);
+        self.due(trace, reply.sensor);
+        self.put(b'\n');
+    }
 }

@@ -4,7 +4,7 @@ ghost use Rattle.bench.specs.Text as T;
 
 use std::marker::Model;
 
-// The text of a line. It has room for 128 bytes: what goes beyond them is left out, and no line is longer (`line_fits`).
+// The text of a line. It has room for 128 bytes: what goes beyond them is left out, and no line does (`reply`).
 #[derive(Drop)]
 pub(crate) struct Line {
     bytes: [u8; 128],

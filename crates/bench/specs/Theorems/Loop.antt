@@ -1,6 +1,6 @@
 -- What the loop of `run` does, command by command.
-use Rattle.std.specs.Prelude.{◌≡◌, refl, Bool, true, false, cond, not, List, ℕ, ◌+◌, ◌-◌, ◌≤◌, ◌<◌, length, take, drop, get_or}
-use Rattle.std.proofs.Common.{sym, ap, ◌∙◌, arith, zero-add, leb-true, leb-false, le-leb, length-drop}
+use Rattle.std.specs.Prelude.{◌≡◌, refl, Bool, true, false, List, ℕ, ◌+◌, ◌-◌, ◌≤◌, ◌<◌, length, take, drop, get_or}
+use Rattle.std.proofs.Common.{sym, ap, subst, ◌∙◌, arith, zero-add, leb-true, leb-false, le-leb, length-drop}
 use Rattle.std.proofs.Math.Seq.{take-length}
 use Rattle.std.proofs.lemmas.List.Edits.{sets}
 use Rattle.machine.specs.Put.{Put}
@@ -59,14 +59,6 @@ advance over input at {k} {c} h ec ek =
     let j : size c ≤ length (drop at input) = rw ec (size_fits (drop at input) l) in
     (omega arith, omega (arith, size_pos c))
 
-never : ◌≡◌ {A = Bool} false true → ⊥
-never e = let z : ◌≡◌ {A = ℕ} 1 0 = ap (λ (b : Bool). cond b 0 1) e in omega arith
-
--- the loop's test has failed
-pub stopped : (z : Bool) → not z ≡ false → z ≡ true
-stopped true h = refl
-stopped false h = absurd (never (sym h))
-
 -- ---- a command is served and its line written
 
 took_is : (trace : Bool) (n : Bma150) (input : List ℕ) (at : ℕ) (c : Command) (k : Called) → c ≡ decoded (drop at input) → k ≡ commanded n c (image (drop at input))
@@ -86,9 +78,8 @@ module _ (trace : Bool) {over : Bool} {s : Bma150} {input d e : List ℕ} {n : B
       rw (ek, ez) (T.went (lawful trace) (took trace (get_or input at 0) c (replied r)) b g fits (took_is trace n input at c (replied r) ec er) w)
 
   -- it has not stopped
-  pub going : (z : Bool) → not z ≡ true → Upto (bench trace) over s input d e n at p z → Upto (bench trace) over s input d e n at p false
-  going true h b = absurd (never h)
-  going false h b = b
+  pub going : {z : Bool} → z ≡ false → Upto (bench trace) over s input d e n at p z → Upto (bench trace) over s input d e n at p false
+  going h b = subst (λ (z : Bool). Upto (bench trace) over s input d e n at p z) h b
 
   -- the loop is left: the block is done
   pub finished : {z : Bool} (b : Upto (bench trace) over s input d e n at p z) → at ≤ length input

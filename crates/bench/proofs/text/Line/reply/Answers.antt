@@ -5,12 +5,12 @@ use Rattle.bench.specs.Text.{space, hex, word, due_text, appended}
 use Rattle.bench.specs.Line.{line, pins, answer_number, answer_adds, added_text}
 use Rattle.bench.proofs.Appended.{all, begun, went_on}
 use Rattle.bench.proofs.Fits.{word_fits, due_fits}
-use Rattle.bench.proofs.lines.line.Goals as goal
+use Rattle.bench.proofs.text.Line.reply.Goals as goal
 
 pub returns : goal.returns
 unfolding line
 returns c =
-    let r = c.args.reply.now in
+    let r = c.args.reply in
     let front : List ℕ = hex c.args.b ++ (space ∷ []) in
     let name : List ℕ = word (answer_number r.answer) in
     let added : List ℕ = added_text (answer_adds r.answer) in
@@ -21,7 +21,7 @@ returns c =
     went_on _ _
     (went_on _ _
     (went_on _ _
-    (went_on _ _ (went_on _ _ (went_on _ _ (begun (hex c.args.b) c.new-line.ensures c.hex.ensures) c.put.ensures) c.answer.ensures) (c.word.ensures ∙ ap (appended c.answer.new.self) c.pins.ensures))
+    (went_on _ _ (went_on _ _ (went_on _ _ (begun (hex c.args.b) c.requires c.hex.ensures) c.put.ensures) c.answer.ensures) (c.word.ensures ∙ ap (appended c.answer.new.self) c.pins.ensures))
     c.added.ensures.text)
     c.due.ensures)
     c.put-2.ensures
