@@ -106,6 +106,13 @@ impl Filter {
         Filter { shift, ..self }
     }
 
+    // The codes of the three axes.
+    pub fn history(self) -> [i16; 192]
+        ensures { result ≡ self.history }
+    {
+        self.history
+    }
+
     // A code comes on an axis: the filter after it, and what it answers.
     pub fn push(mut self, axis: u8, code: i16) -> Pushed
         ensures filter_value { result.filter ≡ pushed self axis code }
