@@ -3,4 +3,3 @@ pub mod More
 pub mod RoundTrip
 pub mod Examples
 pub mod Wants
-pub mod Named

@@ -18,7 +18,7 @@ pub enum Command {
 
 // The command that a first byte names.
 #[derive(Clone, Copy, PartialEq, Eq, Debug)]
-enum Opcode {
+pub enum Opcode {
     Start,
     Accelerations,
     Temperature,
@@ -35,7 +35,7 @@ enum Opcode {
 
 // A byte that begins no command.
 #[derive(Clone, Copy, PartialEq, Eq, Debug)]
-struct UnknownByte(u8);
+pub struct UnknownByte(pub u8);
 
 impl TryFrom<u8> for Opcode {
     ghost use Rattle.std.specs.Prelude.{◌≡◌};

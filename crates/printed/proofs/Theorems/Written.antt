@@ -1,7 +1,7 @@
 -- A command that is read from bytes, and is not bad, is what those bytes write: the converse of the round trip.
 use Rattle.std.proofs.Math.Path.{◌≡◌, refl, ap}
 use Rattle.std.proofs.Common.{sym, ◌∙◌, pow-suc, zero-mul, one-mul, add-zero, mod-eq_of_lt, add-one}
-use Rattle.std.specs.Prelude.{Bool, eqb, pos, negsuc, drop, get_or}
+use Rattle.std.specs.Prelude.{Bool, eqb, pos, negsuc, drop, get_or, Result, Ok}
 use Rattle.std.proofs.Math.Bool.{true, false, cond}
 use mathlib.Core.List.{List, [], ◌∷◌, ◌++◌}
 use Prim.Native.Nat.{ℕ, zero, suc, ◌+◌, ◌-◌, ◌*◌, ◌/◌, ◌%◌, ◌^◌, ◌≤◌, ◌<◌}
@@ -14,9 +14,10 @@ use Rattle.time.specs.declared.Time.{Time}
 use Rattle.calls.specs.declared.types.Timed.TheVariants as Timed
 use Rattle.calls.specs.declared.types.Starting.{Starting}
 use Rattle.commands.specs.declared.Command.{Command}
-use Rattle.commands.specs.Decode.{part, number_at, signed, moment_at, byte_at, bit, levels, timed, start, image, accelerations, temperature, supply, due, select, rising, falling, pins, stored_image, view, opcode, named_by, decoded, timed_size, call_size, size, is_bad}
+use Rattle.commands.specs.declared.Opcode.{Opcode}
+use Rattle.commands.specs.declared.UnknownByte.{UnknownByte}
+use Rattle.commands.specs.Decode.{part, number_at, signed, moment_at, byte_at, bit, levels, timed, start, image, accelerations, temperature, supply, due, select, rising, falling, pins, stored_image, view, opcode, named, named_by, decoded, timed_size, call_size, size, is_bad}
 use Rattle.commands.specs.Encode.{start_byte, bytes, time_bytes, complement, weighed, lines_byte, timed_bytes, call_bytes, encoded, TimeFits, SignedFits, TimedFits, CallFits, Fits}
-use Rattle.commands.proofs.Theorems.Named.{any_named}
 use Rattle.commands.proofs.Theorems.Laws.{number_more, part_more}
 use Rattle.printed.specs.Commands.{Bytes}
 
@@ -242,11 +243,29 @@ module _ (b : ℕ) (m : List ℕ) (all : Bytes (b ∷ m)) where
 
   -- ---- any command
 
+  -- this byte names the opcode, or another one
+  is_opcode : (v : ℕ) (o : Opcode) (r : Result Opcode UnknownByte) → (b ≡ v → Back (named o l)) → Back (named_by r l) → Back (named_by (cond (eqb b v) (Ok o) r) l)
+  is_opcode v o r f g = go (eqb b v) refl
+    where
+      go : (z : Bool) → eqb b v ≡ z → Back (named_by (cond z (Ok o) r) l)
+      go true e = f (eqb-true b v e)
+      go false e = g
+
   named_back : Back (named_by (opcode b) l)
-  unfolding start_byte
+  unfolding opcode named start_byte
   named_back =
-      any_named b l Back (start_back Starting.Checked) accelerations_back temperature_back supply_back due_back select_back rising_back falling_back pins_back
-      stored_image_back view_back (start_back Starting.Stored) bad_back
+      is_opcode 0x01 Opcode.Start _ (start_back Starting.Checked)
+      (is_opcode 0x02 Opcode.Accelerations _ accelerations_back
+      (is_opcode 0x03 Opcode.Temperature _ temperature_back
+      (is_opcode 0x04 Opcode.Supply _ supply_back
+      (is_opcode 0x05 Opcode.Due _ due_back
+      (is_opcode 0x06 Opcode.Select _ select_back
+      (is_opcode 0x07 Opcode.Rising _ rising_back
+      (is_opcode 0x08 Opcode.Falling _ falling_back
+      (is_opcode 0x09 Opcode.Pins _ pins_back
+      (is_opcode 0x0a Opcode.StoredImage _ stored_image_back
+      (is_opcode 0x0b Opcode.View _ view_back
+      (is_opcode 0x0c Opcode.StartStored _ (start_back Starting.Stored) bad_back)))))))))))
 
   pub written_back : Back (decoded l)
   unfolding decoded
