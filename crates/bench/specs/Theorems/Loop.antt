@@ -46,10 +46,6 @@ none_left over input at h = by_test (is_whole over (drop at input)) refl
     by_test true e = let z : ⊥ = omega (arith, some over (drop at input) e, length-drop at input) in absurd z
     by_test false e = e
 
--- what is left of the input, as a slice has it
-pub left_is : (at : ℕ) (input : List ℕ) → take (length input - at) (drop at input) ≡ drop at input
-left_is at input = rw (← length-drop at input) (take-length (drop at input))
-
 -- it takes a byte at least, and no more than what is there
 pub advance : (over : Bool) (input : List ℕ) (at : ℕ) {k : ℕ} {c : Command} → is_whole over (drop at input) ≡ true → c ≡ decoded (drop at input) → k ≡ size c
     → (at + k ≤ length input) × (1 ≤ k)

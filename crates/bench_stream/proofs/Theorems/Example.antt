@@ -35,7 +35,7 @@ ran = answer 2 (block false false beginning sent)
 
 -- after the read
 abbrev came : Turn
-came = arrived 0 2 beginning
+came = arrived 2 beginning
 
 -- after its line
 abbrev served : Turn
@@ -43,20 +43,20 @@ served = served_by came ran true
 
 -- after the read of nothing
 abbrev over : Turn
-over = arrived 0 0 ran.sensor
+over = arrived 0 ran.sensor
 
-pub example : Turns false 3 sent (ascii "0b ok 0 F F 02\n") over sent
+pub example : Turns false 3 sent (ascii "0b ok 0 F F 02\n") over []
 unfolding facts wrong_length out_of_range jumps late too_late goes_back before_due beside_due first_found refusal reserved turned_down start_refusal unless_refused after_start leaves adds shadowing peek is_acceleration mark mark_of shown interrupt shows_new_data output data_output spi_drives i2c_holds drive_letter view_value mark_letter is_set withheld unreadable image_blocks locked Pin.output Pin.threshold_output Pin.motion_output configure number_at view opcode named decoded opcode_size wants call_size size is_bad word bit view_text mark_text due_text commanded added_text pins line turn iterate M.least M.pace M.block is_whole goes_on
 example =
     Turns.more
     (Turns.more
-    (Turns.more (Turns.none []) refl (Did.read sent 0 2 refl refl refl))
+    (Turns.more Turns.none refl (Did.read sent refl refl))
     refl
-    (Did.served ran true (inr refl) (omega arith) (omega arith) (omega arith) refl refl))
+    (Did.served ran true (inr refl) (omega arith) refl refl))
     refl
-    (Did.read sent 0 0 refl refl refl)
+    (Did.read [] refl refl)
 
 -- nothing is left to do
-pub example_ends : goes_on over ≡ false
+pub example_ends : goes_on over [] ≡ false
 unfolding goes_on
 example_ends = refl

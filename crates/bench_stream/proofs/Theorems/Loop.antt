@@ -1,8 +1,9 @@
 -- What the loop has read and handed to `write`.
-use Rattle.std.specs.Prelude.{◌≡◌, refl, Bool, true, false, List, [], ◌++◌, ℕ, ◌+◌, ◌-◌, ◌^◌, ◌≤◌, length, take, drop}
-use Rattle.std.proofs.Common.{sym, ap, subst, ◌∙◌, inl, inr, append-nil, add-zero, zero-add, take-add}
+use Rattle.std.specs.Prelude.{◌≡◌, refl, Bool, true, false, List, [], ◌++◌, ℕ, ◌+◌, ◌-◌, ◌^◌, length, drop, Option, None, Some}
+use Rattle.std.proofs.Common.{sym, ap, subst, inl, inr, append-nil}
+use Rattle.std.proofs.KnownBytes.{Consumes-nil, Consumes-trans, Appends-nil, Appends-trans}
+use Rattle.std.specs.Io.KnownBytes.{Consumes}
 use Rattle.machine.specs.Pieces.{Between, between, Steps, begun, brought, ended, ran}
-use Rattle.machine.proofs.Theorems.Put.{text}
 use Rattle.machine.proofs.Theorems.Turns.{Goes}
 use Rattle.machine.proofs.Theorems.Whole as M
 use Rattle.bma150.specs.declared.host.Bma150.{Bma150}
@@ -10,13 +11,14 @@ use Rattle.bench.specs.declared.Ran.{Ran}
 use Rattle.bench.specs.Run.{bench, whole}
 use Rattle.bench.specs.Block.{block, answer}
 use Rattle.bench.specs.Theorems.Lawful.{lawful}
+use Rattle.bench_stream.specs.declared.Failed.{Failed}
 use Rattle.bench_stream.specs.declared.Turn.{Turn}
-use Rattle.bench_stream.specs.Loop.{beginning, first, kept, kept_of, goes_on, arrived, cut_off, served_by, Did, Turns, Ended}
-use Rattle.bench_stream.proofs.Theorems.Turn.{within, shorter, less, between_of, same_between, not_stopped, at_end, add_one_over}
+use Rattle.bench_stream.specs.Loop.{beginning, first, goes_on, arrived, cut_off, served_by, Did, Wrote, Stepped, Turns, Streamed}
+use Rattle.bench_stream.proofs.Theorems.Turn.{between_of, same_between, going, not_stopped, at_end}
 
 module _ (trace : Bool) where
-  abbrev Led : (l w : List ℕ) → Turn → (buf : List ℕ) → Type 0
-  Led l w t buf = Steps (bench trace) beginning l w (between_of t buf)
+  abbrev Led : (l w : List ℕ) → Turn → (kept : List ℕ) → Type 0
+  Led l w t k = Steps (bench trace) beginning l w (between_of t k)
 
   -- nothing brought, nothing written
   abbrev Adds : (l w piece text : List ℕ) → Between Bma150 → Type 0
@@ -36,67 +38,75 @@ module _ (trace : Bool) where
   by_read piece true h = ended (brought piece h)
   by_read piece false h = brought piece h
 
-  module _ {l w : List ℕ} (t : Turn) (b : List ℕ) (going : t.stop ≡ false) (h : Led l w t b) where
-    read_steps : (c : List ℕ) (k got : ℕ) → t.over ≡ false → take k c ≡ kept_of t b → Adds l w (take got (drop k c)) [] (between_of (arrived k got t.sensor) c)
-    read_steps c k got more same =
-        let all : kept_of t b ++ take got (drop k c) ≡ kept c 0 (k + got) = ap (λ (x : List ℕ). x ++ take got (drop k c)) (sym same) ∙ sym (take-add k got c) ∙ ap (λ (i : ℕ). take i c) (less (k + got)) in
-        silent (renamed _ _ (same_between refl all refl refl) (by_read (take got (drop k c)) (arrived k got t.sensor).over (renamed _ _ (same_between refl refl more going) h)))
+  module _ {l w : List ℕ} (t : Turn) (k : List ℕ) (going : t.stop ≡ false) (h : Led l w t k) where
+    read_steps : (piece : List ℕ) → t.over ≡ false → Adds l w piece [] (between_of (arrived (length piece) t.sensor) (k ++ piece))
+    read_steps piece more = silent (by_read piece (arrived (length piece) t.sensor).over (renamed _ _ (same_between refl refl more going) h))
 
-    failed_steps : (c : List ℕ) (k : ℕ) → t.over ≡ false → take k c ≡ kept_of t b → Adds l w [] [] (between_of (cut_off k t.sensor) c)
-    failed_steps c k more same =
-        let all : kept_of t b ≡ kept c 0 k = sym same ∙ ap (λ (i : ℕ). take i c) (less k) in
-        silent (still (renamed _ _ (same_between refl all more going) h))
+    failed_steps : t.over ≡ false → Adds l w [] [] (between_of (cut_off t.sensor) k)
+    failed_steps more = silent (still (renamed _ _ (same_between refl refl more going) h))
 
-    served_steps : (r : Ran) (taken : Bool) → t.at ≤ t.have → t.have ≤ length b → r.read ≤ length (kept_of t b)
-        → r ≡ answer (length (kept_of t b)) (block trace t.over t.sensor (kept_of t b))
-        → (block trace t.over t.sensor (kept_of t b)).left ≡ drop r.read (kept_of t b)
-        → Adds l w [] (block trace t.over t.sensor (kept_of t b)).text (between_of (served_by t r taken) b)
-    served_steps r taken x y z is left =
-        let to : (block trace t.over t.sensor (kept_of t b)).left ≡ kept b (t.at + r.read) t.have = left ∙ shorter b t.at t.have r.read (within b t.at t.have r.read x y z) y in
-        still (renamed _ _ (same_between (sym (ap (λ (q : Ran). q.sensor) is)) to refl (sym (ap (λ (q : Ran). q.stop) is)))
+    served_steps : (r : Ran) (taken : Bool) → r ≡ answer (length k) (block trace t.over t.sensor k)
+        → (block trace t.over t.sensor k).left ≡ drop r.read k
+        → Adds l w [] (block trace t.over t.sensor k).text (between_of (served_by t r taken) (drop r.read k))
+    served_steps r taken is left =
+        still (renamed _ _ (same_between (sym (ap (λ (q : Ran). q.sensor) is)) left refl (sym (ap (λ (q : Ran). q.stop) is)))
         (ran (renamed _ _ (same_between refl refl refl going) h)))
 
-  did : {l w : List ℕ} {t u : Turn} {b c piece text : List ℕ} → t.stop ≡ false → Led l w t b → Did trace t b u c piece text → Led (l ++ piece) (w ++ text) u c
-  did {l} {w} {t} {u} {b} going h (Did.read c k got more few same) = read_steps t b going h c k got more same
-  did {l} {w} {t} {u} {b} going h (Did.failed c k more few same) = failed_steps t b going h c k more same
-  did {l} {w} {t} {u} {b} going h (Did.served r taken enough x y z is left) = served_steps t b going h r taken x y z is left
+  did : {l w : List ℕ} {t u : Turn} {k m piece text : List ℕ} → t.stop ≡ false → Led l w t k → Did trace t k u m piece text → Led (l ++ piece) (w ++ text) u m
+  did {l} {w} {t} {u} {k} going h (Did.read piece more few) = read_steps t k going h piece more
+  did {l} {w} {t} {u} {k} going h (Did.failed more few) = failed_steps t k going h more
+  did {l} {w} {t} {u} {k} going h (Did.served r taken enough z is left) = served_steps t k going h r taken is left
 
   -- what the turns read and handed to `write` are pieces brought and texts of blocks
-  pub led : {n : ℕ} {l w : List ℕ} {t : Turn} {b : List ℕ} → Turns trace n l w t b → Led l w t b
-  led (Turns.none b) = begun
-  led (Turns.more {n} {l} {w} {t} {u} {b} {c} {piece} {text} h p d) = did (not_stopped t p) (led h) d
+  pub led : {n : ℕ} {l w : List ℕ} {t : Turn} {k : List ℕ} → Turns trace n l w t k → Led l w t k
+  led Turns.none = begun
+  led (Turns.more {n} {l} {w} {t} {u} {k} {m} {piece} {text} h p d) = did (not_stopped t k p) (led h) d
 
   -- ---- the end
 
   -- where nothing was left to do, and no read and no write had failed, all that was handed to `write` is the text of the whole run on what was read
-  pub all_written : {n : ℕ} {l w : List ℕ} {t : Turn} {b : List ℕ} → Turns trace n l w t b → goes_on t ≡ false → t.unread ≡ false → t.unwritten ≡ false
+  pub all_written : {n : ℕ} {l w : List ℕ} {t : Turn} {k : List ℕ} → Turns trace n l w t k → goes_on t k ≡ false → t.failed ≡ None
       → (whole trace beginning l).text ≡ w
-  all_written {n} {l} {w} {t} {b} h e r f = M.put_together (lawful trace) (between_of t b) (led h) (at_end t b e r f)
+  all_written {n} {l} {w} {t} {k} h e f = M.put_together (lawful trace) (between_of t k) (led h) (at_end t k e f)
 
   -- before the input is over, what was handed to `write` is what turns of the whole run write, whatever follows what was read
-  pub so_far : {n : ℕ} {l w : List ℕ} {t : Turn} {b : List ℕ} → Turns trace n l w t b → t.over ≡ false → (later : List ℕ)
-      → Goes (bench trace) beginning (l ++ later) w t.sensor (kept_of t b ++ later) t.stop
-  so_far {n} {l} {w} {t} {b} h e later = M.so_far (lawful trace) (renamed _ _ (same_between refl refl e refl) (led h)) later
+  pub so_far : {n : ℕ} {l w : List ℕ} {t : Turn} {k : List ℕ} → Turns trace n l w t k → t.over ≡ false → (later : List ℕ)
+      → Goes (bench trace) beginning (l ++ later) w t.sensor (k ++ later) t.stop
+  so_far {n} {l} {w} {t} {k} h e later = M.so_far (lawful trace) (renamed _ _ (same_between refl refl e refl) (led h)) later
 
-  -- ---- within the loop: so many turns done, so many left
+  -- ---- within the loop: so many turns done, from a reader with the bytes a and a writer with the bytes v
 
-  pub record Upto (left : ℕ) (t : Turn) (b : List ℕ) : Type 0 where
-    pub count : ℕ
+  pub record Upto (a b v w : Option (List ℕ)) (count : ℕ) (t : Turn) (k : List ℕ) : Type 0 where
     pub read : List ℕ
     pub handed : List ℕ
-    pub turns : Turns trace count read handed t b
-    pub spent : count + left ≡ 2 ^ 64 - 1
+    pub turns : Turns trace count read handed t k
+    pub took : Consumes a b read
+    pub wrote : Wrote t.failed v w handed
 
-  pub upto_first : (t : Turn) (b : List ℕ) → t ≡ first → Upto (2 ^ 64 - 1) t b
-  upto_first t b e = subst (λ (x : Turn). Upto (2 ^ 64 - 1) x b) (sym e) (record { count = 0; read = []; handed = []; turns = Turns.none b; spent = zero-add _ })
+  pub upto_first : (a v : Option (List ℕ)) (t : Turn) (k : List ℕ) → t ≡ first → k ≡ [] → Upto a a v v 0 t k
+  upto_first a v t k e f = rw (e, f) (record { read = []; handed = []; turns = Turns.none; took = Consumes-nil a; wrote = Appends-nil v })
 
-  pub upto_next : {left rest : ℕ} {t u : Turn} {b c piece text : List ℕ} → Upto left t b → left ≡ rest + 1 → goes_on t ≡ true → Did trace t b u c piece text → Upto rest u c
-  upto_next {left} {rest} {t} {u} {b} {c} {piece} {text} h e p d =
-      record { count = h.count + 1; read = h.read ++ piece; handed = h.handed ++ text; turns = Turns.more h.turns p d; spent = add_one_over h.count _ _ e ∙ h.spent }
+  -- a turn writes only where none has failed
+  wrote_more : (f g : Option Failed) (u v w : Option (List ℕ)) (l m : List ℕ) → f ≡ None → Wrote f u v l → Wrote g v w m → Wrote g u w (l ++ m)
+  wrote_more f None u v w l m e p q = Appends-trans u v w l m (rw e at p) q
+  wrote_more f (Some Failed.Read) u v w l m e p q = Appends-trans u v w l m (rw e at p) q
+  wrote_more f (Some Failed.Write) u v w l m e p q = tt
 
-  pub ended_now : {left : ℕ} {t : Turn} {b : List ℕ} → Upto left t b → goes_on t ≡ false → Ended trace t
-  ended_now {left} {t} {b} h p = record { count = h.count; read = h.read; handed = h.handed; buffer = b; turns = h.turns; end = inl p }
+  pub upto_next : {a b c v w x : Option (List ℕ)} {n : ℕ} {t u : Turn} {k m o : List ℕ} → Upto a b v w n t k → goes_on t k ≡ true
+      → Stepped trace t k u m o b c w x → Upto a c v x (n + 1) u m
+  upto_next {a} {b} {c} {v} {w} {x} {n} {t} {u} {k} {m} h p s =
+      record {
+        read = h.read ++ s.piece;
+        handed = h.handed ++ s.text;
+        turns = Turns.more h.turns p s.did;
+        took = Consumes-trans a b c h.read s.piece h.took s.took;
+        wrote = wrote_more t.failed u.failed v w x h.handed s.text (going t k p).not_failed h.wrote s.wrote;
+      }
 
-  pub used_up : {left : ℕ} {t : Turn} {b : List ℕ} → Upto left t b → left ≡ 0 → Ended trace t
-  used_up {left} {t} {b} h p =
-      record { count = h.count; read = h.read; handed = h.handed; buffer = b; turns = h.turns; end = inr (sym (add-zero h.count) ∙ ap (λ (x : ℕ). h.count + x) (sym p) ∙ h.spent) }
+  pub ended_now : {a b v w : Option (List ℕ)} {n : ℕ} {t : Turn} {k : List ℕ} → Upto a b v w n t k → goes_on t k ≡ false → Streamed trace t a b v w
+  ended_now {a} {b} {v} {w} {n} {t} {k} h p =
+      record { ended = record { count = n; read = h.read; handed = h.handed; kept = k; turns = h.turns; end = inl p }; took = h.took; wrote = h.wrote }
+
+  pub used_up : {a b v w : Option (List ℕ)} {n : ℕ} {t : Turn} {k : List ℕ} → Upto a b v w n t k → n ≡ 2 ^ 64 - 1 → Streamed trace t a b v w
+  used_up {a} {b} {v} {w} {n} {t} {k} h p =
+      record { ended = record { count = n; read = h.read; handed = h.handed; kept = k; turns = h.turns; end = inr p }; took = h.took; wrote = h.wrote }

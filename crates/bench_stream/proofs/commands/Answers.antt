@@ -1,18 +1,18 @@
-use borrow.Author.Rules.{rules}
-use mathlib.Core.List.{[]}
-use Rattle.bench.specs.Block.{block}
-use Rattle.bench_stream.specs.Loop.{kept_of, Did}
-use Rattle.bench_stream.proofs.Theorems.Turn.{shown}
+use Rattle.std.specs.Prelude.{◌≡◌, Bool, true, cond, None, Some}
+use Rattle.std.proofs.Common.{sym, ap, ◌∙◌}
+use Rattle.bench_stream.specs.declared.Failed.{Failed}
+use Rattle.bench_stream.proofs.Steps.{on_ok, served}
 use Rattle.bench_stream.proofs.commands.Goals as goal
+use Rattle.bench_stream.proofs.commands.Goals.{then-taken, else-taken}
 
-pub returns-clause-stepped : goal.returns-clause-stepped
-returns-clause-stepped g c =
-    let t = c.args.t in
-    let pre = c.requires in
-    let r = c.run-r in
-    let e = r.ensures in record {
-      piece = [];
-      text = _;
-      did = Did.served r.result c.flush-taken.result pre.3 pre.0 pre.1 e.read_in_bounds.0 e.value e.input_value;
-      shown = shown c.args.out.now (block c.args.trace t.over t.sensor (kept_of t c.args.buf.now)) _ (search rules) e.out_after e.value e.read_in_bounds.1;
-    }
+pub returns : goal.returns
+returns g c =
+    let e = rw c.bytes.ensures at c.run-ran.ensures in
+    let taken = c.is_ok-taken.result in
+    let which : c.if-taken.result ≡ cond taken None (Some Failed.Write) = elim c.if-taken.branch [
+      | then-taken w ↦ w.result-is ∙ sym (ap (λ (b : Bool). cond b None (Some Failed.Write)) w.if-taken.true)
+      | else-taken w ↦ w.result-is ∙ sym (ap (λ (b : Bool). cond b None (Some Failed.Write)) w.if-taken.false)
+    ] in
+    served c.args.trace c.args.t c.args.kept.now c.run-ran.result c.args.out.now c.if-taken.result taken _ _ c.requires e.value e.out_after e.input_value e.read_in_bounds.0 e.read_in_bounds.1
+    c.run-ran.array_long c.skip.ensures which
+    (λ (y : taken ≡ true). on_ok c.write_all.result (sym c.is_ok-taken.ensures.value ∙ y) c.write_all.ensures.bytes)

@@ -1,0 +1,50 @@
+-- The bytes that stand in a buffer from one place to another.
+use Rattle.std.specs.Prelude.{◌≡◌, List, ◌++◌, ℕ, ◌+◌, ◌-◌, ◌≤◌, length, take, drop}
+use Rattle.std.proofs.Common.{sym, ap, ◌∙◌, arith, length-take, length-take-le, length-drop, take-add, drop-drop, drop_at, append-nil}
+use Rattle.std.proofs.Math.Seq.{take-append-add}
+use Rattle.std.proofs.lemmas.List.{drop-append-le, drop-take}
+use Rattle.machine.specs.Put.{Put}
+use Rattle.machine.proofs.Theorems.Put.{text}
+
+abbrev pub kept : (buf : List ℕ) (at have : ℕ) → List ℕ
+kept buf at have = take (have - at) (drop at buf)
+
+room : (buf : List ℕ) (at n : ℕ) → at + n ≤ length buf → n ≤ length (drop at buf)
+room buf at n h = simp length-drop (omega arith)
+
+pub kept_length : (buf : List ℕ) (at have : ℕ) → at ≤ have → have ≤ length buf → length (kept buf at have) ≡ have - at
+kept_length buf at have h g = length-take-le (have - at) (drop at buf) (room buf at (have - at) (omega arith))
+
+-- the first n left out
+pub shorter : (buf : List ℕ) (at have n : ℕ) → at ≤ have → have ≤ length buf → n ≤ length (kept buf at have) → kept buf (at + n) have ≡ drop n (kept buf at have)
+shorter buf at have n h g f =
+    let p : at + n ≤ have = omega (arith, kept_length buf at have h g) in
+    let e : have - at ≡ n + (have - (at + n)) = omega arith in
+    let k : length (take n (drop at buf)) ≡ n = length-take-le n (drop at buf) (room buf at n (omega arith)) in
+    sym
+    (ap (λ (i : ℕ). drop n (take i (drop at buf))) e
+    ∙ ap (drop n) (take-add n (have - (at + n)) (drop at buf))
+    ∙ drop_at (take n (drop at buf)) (take (have - (at + n)) (drop n (drop at buf))) n k
+    ∙ ap (take (have - (at + n))) (drop-drop n at buf))
+
+-- moved to the front
+pub front : {b c : List ℕ} (at have n : ℕ) → at ≤ have → have ≤ length b → n ≡ have - at → Put b 0 (take n (drop at b)) c n → kept c 0 (have - at) ≡ kept b at have
+front {b} {c} at have n h g e p =
+    let fits : 0 + length (take n (drop at b)) ≤ length b = simp (length-take, length-drop) (omega arith) in
+    let z : have - at - 0 ≡ n = omega arith in
+    rw (z, ← e) (text fits p)
+
+-- the bytes l stored behind them, as far as n of them
+pub behind : (buf l : List ℕ) (at have n : ℕ) → at ≤ have → have ≤ length buf → kept (take have buf ++ l) at (have + n) ≡ kept buf at have ++ take n l
+behind buf l at have n h g =
+    let long : length (take have buf) ≡ have = length-take-le have buf g in
+    let up : have ≡ at + (have - at) = omega arith in
+    let e : have + n - at ≡ length (kept buf at have) + n = omega (arith, kept_length buf at have h g) in
+    let split : drop at (take have buf ++ l) ≡ kept buf at have ++ l = drop-append-le at (take have buf) l (omega arith) ∙ ap (λ (k : List ℕ). k ++ l) (ap (λ (i : ℕ). drop at (take i buf)) up ∙ drop-take at (have - at) buf) in
+    ap (λ (i : ℕ). take i (drop at (take have buf ++ l))) e ∙ ap (take (length (kept buf at have) + n)) split ∙ take-append-add (kept buf at have) l n
+
+-- what is stored behind them does not change them
+pub untouched : (buf l : List ℕ) (at have : ℕ) → at ≤ have → have ≤ length buf → kept (take have buf ++ l) at have ≡ kept buf at have
+untouched buf l at have h g =
+    let e : have ≡ have + 0 = omega arith in
+    ap (kept (take have buf ++ l) at) e ∙ behind buf l at have 0 h g ∙ append-nil (kept buf at have)

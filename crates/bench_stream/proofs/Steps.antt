@@ -1,0 +1,62 @@
+-- What the functions of a turn do, as turns.
+use Rattle.std.specs.Prelude.{◌≡◌, refl, Bool, true, false, cond, List, [], ◌++◌, ℕ, ◌≤◌, eqb, length, take, drop, Option, None, Some, Result, Ok, Err, OnOk, is_ok}
+use Rattle.std.proofs.Common.{sym, subst}
+use Rattle.std.proofs.lemmas.List.Edits.{sets}
+use Rattle.std.specs.Io.KnownBytes.{Appends, Consumes, Keeps}
+use Rattle.std.proofs.KnownBytes.{Appends-nil, Consumes-nil, Consumes-kept}
+use Rattle.bench.specs.declared.Ran.{Ran}
+use Rattle.bench.specs.Block.{is_whole, block, answer}
+use Rattle.bench_stream.specs.declared.Failed.{Failed}
+use Rattle.bench_stream.specs.declared.Turn.{Turn}
+use Rattle.bench_stream.specs.Loop.{goes_on, Enough, arrived, cut_off, Did, Wrote, Stepped}
+use Rattle.bench_stream.proofs.Theorems.Turn.{contrary, going, shown}
+
+-- what a result says that is known to be `Ok`
+pub on_ok : {T E P : Type 0} (r : Result T E) → is_ok r ≡ true → OnOk r P → P
+on_ok (Ok x) e p = p
+on_ok (Err d) e p = contrary e
+
+module _ (trace : Bool) (t : Turn) (k : List ℕ) where
+  turned : (u : Turn) {w : Turn} {l o : List ℕ} {a b c d : Option (List ℕ)} → w ≡ u → Stepped trace t k u l o a b c d → Stepped trace t k w l o a b c d
+  turned u {w} {l} {o} {a} {b} {c} {d} e s = subst (λ (x : Turn). Stepped trace t k x l o a b c d) (sym e) s
+
+  module _ (p : goes_on t k ≡ true) (more : t.over ≡ false) (few : is_whole false k ≡ false) {a b : Option (List ℕ)} {l : List ℕ} (o : List ℕ) (v : Option (List ℕ)) where
+    -- a read brought a piece
+    pub read : {n : ℕ} (piece : List ℕ) → l ≡ k ++ piece → length piece ≡ n → Consumes a b piece
+        → Stepped trace t k (record { over = eqb n 0; stop = t.stop; failed = t.failed; written = 0; sensor = t.sensor }) l o a b v v
+    read {n} piece e f h =
+        let is : ◌≡◌ {A = Turn} (record { over = eqb n 0; stop = t.stop; failed = t.failed; written = 0; sensor = t.sensor }) (arrived (length piece) t.sensor) =
+        rw (f, (going t k p).not_stopped, (going t k p).not_failed) refl in
+        turned (arrived (length piece) t.sensor) is
+        (rw e (record { piece = piece; text = []; did = Did.read piece more few; shown = refl; took = h; wrote = Appends-nil v }))
+
+    -- or failed
+    pub cut : l ≡ k → Keeps a b
+        → Stepped trace t k (record { over = t.over; stop = t.stop; failed = Some Failed.Read; written = 0; sensor = t.sensor }) l o a b v v
+    cut e h =
+        let is : ◌≡◌ {A = Turn} (record { over = t.over; stop = t.stop; failed = Some Failed.Read; written = 0; sensor = t.sensor }) (cut_off t.sensor) =
+        rw (more, (going t k p).not_stopped) refl in
+        turned (cut_off t.sensor) is
+        (rw e (record { piece = []; text = []; did = Did.failed more few; shown = refl; took = Consumes-kept a a b [] (Consumes-nil a) h; wrote = Appends-nil v }))
+
+  -- a block was served
+  wrote : (taken : Bool) (v w : Option (List ℕ)) (text : List ℕ) → (taken ≡ true → Appends v w text) → Wrote (cond taken None (Some Failed.Write)) v w text
+  wrote true v w text h = h refl
+  wrote false v w text h = tt
+
+  pub served : (r : Ran) (d : List ℕ) {e l : List ℕ} (f : Option Failed) (taken : Bool) (v w : Option (List ℕ)) → Enough t k
+      → r ≡ answer (length k) (block trace t.over t.sensor k) → e ≡ sets d 0 (block trace t.over t.sensor k).text → (block trace t.over t.sensor k).left ≡ drop r.read k
+      → r.read ≤ length k → r.written ≤ 65536 → length e ≡ 65536 → l ≡ drop r.read k → f ≡ cond taken None (Some Failed.Write) → (taken ≡ true → Appends v w (take r.written e))
+      → (a : Option (List ℕ)) → Stepped trace t k (record { over = t.over; stop = r.stop; failed = f; written = r.written; sensor = r.sensor }) l e a a v w
+  served r d {e} {l} f taken v w enough is out left within fits size lis fis h a =
+      let text : List ℕ = (block trace t.over t.sensor k).text in
+      let front : take r.written e ≡ text = shown d (block trace t.over t.sensor k) (length k) size out is fits in
+      rw (lis, fis)
+      (record {
+        piece = [];
+        text = text;
+        did = Did.served r taken enough within is left;
+        shown = front;
+        took = Consumes-nil a;
+        wrote = wrote taken v w text (λ (y : taken ≡ true). subst (Appends v w) front (h y));
+      })
