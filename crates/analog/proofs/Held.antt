@@ -1,6 +1,5 @@
 -- The code's numbers: x, as goals write it, is the number z that the definitions name, of a size of at most N.
-use Rattle.std.specs.Prelude.{int_lt, if◌then◌else◌}
-use Rattle.std.proofs.Common.{Bool, true, false, le_refl, ◌≡◌, ℕ, suc, negsuc, arith, lit≤, w32, ◌+◌, ◌*◌, ◌/◌, ◌^◌, ◌<◌, ◌≤◌, T, leb, leb→le, ltb, ltb→lt, le_trans, le_of_lt, ℤ, pos, ◌+ℤ◌, ◌-ℤ◌, ◌*ℤ◌, nat_abs, ap, refl, ◌∙◌, lt_of_le_of_lt, w64, FitsSigned, to_z, of_z}
+use Rattle.std.proofs.Common.{◌≡◌, ℕ, suc, negsuc, arith, lit≤, w32, ◌+◌, ◌*◌, ◌/◌, ◌^◌, ◌<◌, ◌≤◌, T, leb, leb→le, ltb, ltb→lt, le_trans, le_of_lt, ℤ, pos, ◌+ℤ◌, ◌-ℤ◌, ◌*ℤ◌, nat_abs, ap, refl, ◌∙◌, lt_of_le_of_lt, w64, FitsSigned, to_z, of_z}
 use lib.IntN.{neg_ℤ, +ℤ_idl}
 use lib.Signed.{mag, quot_z}
 use mir.Syntax.{w128}
@@ -50,17 +49,6 @@ abs_quot (negsuc n) d = abs_neg (pos (suc n / d))
 pub over : {x z y : ℤ} {N : ℕ} (d : ℕ) → y ≡ pos d → 0 < d → Is x z N → Is (quot_z x y) (quot_z z (pos d)) (N / d)
 over {x} {z} {y} {N} d e l p = record { is = λ i. quot_z (p.is i) (e i); le = rw (abs_quot z d) (div_mono (nat_abs z) N d l p.le) }
 
--- half of a divisor away from zero
-abbrev pub away : (n : ℤ) (half : ℕ) → ℤ
-away n half = if int_lt n (pos 0) then n -ℤ pos half else n +ℤ pos half
-
-pub further : {x z : ℤ} {N : ℕ} (half : ℕ) → Is x z N → Is (away x half) (away z half) (N + half)
-further {x} {z} {N} half p = record { is = ap (λ (y : ℤ). away y half) p.is; le = go (int_lt z (pos 0)) }
-  where
-    go : (t : Bool) → nat_abs (if t then z -ℤ pos half else z +ℤ pos half) ≤ N + half
-    go true = abs_sub z (pos half) N half p.le (le_refl half)
-    go false = abs_add z (pos half) N half p.le (le_refl half)
-
 -- ---- words
 
 -- 128 bits hold it, and 64
@@ -84,6 +72,9 @@ within {x} {z} {N} M p t = rw p.is (le_trans p.le (leb→le N M t))
 -- a number without a sign
 pub natural : (n N : ℕ) → n ≤ N → T (ltb N (2 ^ 127)) → Is (to_z w128 n) (pos n) N
 natural n N p t = record { is = to_z_pos w128 n (lt_of_le_of_lt p (ltb→lt N (2 ^ 127) t)); le = p }
+
+pub natural_64 : (n N : ℕ) → n ≤ N → T (ltb N (2 ^ 63)) → Is (to_z w64 n) (pos n) N
+natural_64 n N p t = record { is = to_z_pos w64 n (lt_of_le_of_lt p (ltb→lt N (2 ^ 63) t)); le = p }
 
 -- a number that `round` of the code returns
 pub rounded : {x z : ℤ} {N : ℕ} (d : ℕ) (r : ℤ) → r ≡ round x d → 0 < d → Is x z N → Is r (round z d) ((N + d / 2) / d)

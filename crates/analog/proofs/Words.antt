@@ -1,13 +1,14 @@
 -- Numbers of 128 bits: what a quotient and the lowest 64 bits of one are.
-use Rattle.std.proofs.Math.Nat.{div-div-eq-div-mul, zero-div}
-use Rattle.std.proofs.Common.{zero, neg_ℤ, ◌≡◌, ℕ, suc, ◌+◌, ◌-◌, ◌*◌, ◌/◌, ◌%◌, ◌^◌, ◌<◌, ◌≤◌, ℤ, pos, negsuc, nat_abs, bit_and, ap, ◌∙◌, div-lt_iff_lt-mul, mul-le-mul_left, add-mul, one-mul, mul-one, arith, lit<, lt_trans, lt→ltb, FitsSigned, to_z, of_z}
-use lib.Signed.{quot_z}
+use Rattle.std.proofs.Math.Nat.{div-div-eq-div-mul, div-le_self}
+use Rattle.std.proofs.Common.{refl, le_trans, ◌+ℤ◌, ◌-ℤ◌, Bool, true, false, ◌*ℤ◌, sym, mul-pos, ltb-true, ◌≡◌, ℕ, suc, ◌+◌, ◌-◌, ◌*◌, ◌/◌, ◌%◌, ◌^◌, ◌<◌, ◌≤◌, ℤ, pos, negsuc, nat_abs, bit_and, ap, ◌∙◌, div-lt_iff_lt-mul, mul-le-mul_left, add-mul, one-mul, mul-one, arith, lit<, lt_trans, FitsSigned, to_z, of_z}
+use lib.Signed.{lt_z, quot_z}
 use mir.Syntax.{w128}
-use Rattle.std.proofs.lemmas.Int.{to_z-of_z, to_z_pos, quot_fits}
+use Rattle.std.proofs.lemmas.Int.{to_z_pos}
 use Rattle.std.proofs.lemmas.Nat.{and_mask}
-use Rattle.analog.specs.Round.{round, bits_64}
-use Rattle.analog.proofs.Held.{wide, away}
-use Rattle.analog.proofs.Theorems.Near.{abs_round}
+use Rattle.analog.specs.Round.{round, bits_64, signed}
+use Rattle.analog.specs.Decay.{unit}
+use Rattle.analog.proofs.Held.{wide, Is, itself, natural, plus, minus, over, read}
+use Rattle.analog.proofs.Theorems.Near.{abs_round, round_signed}
 
 -- the lowest 64 bits of 128
 pub low_bits : (z : ℤ) (b : ℕ) → FitsSigned w128 z → b ≡ of_z w128 z → bit_and b 18446744073709551615 ≡ bits_64 z
@@ -18,10 +19,6 @@ low_bits (negsuc n) b f e =
     let r : (2 ^ 128 - suc n) % 2 ^ 64 ≡ 2 ^ 64 - 1 - n % 2 ^ 64 = omega arith in
     ap (λ (m : ℕ). bit_and m 18446744073709551615) e ∙ and_mask (2 ^ 128 - suc n) 64 ∙ r
 
--- a quotient of 128 bits
-pub quotient : (r : ℤ) (d : ℕ) → FitsSigned w128 r → 0 < d → d < 2 ^ 64 → wide (quot_z (wide r) (to_z w128 d)) ≡ quot_z r (pos d)
-quotient r d f p q = rw (to_z-of_z w128 r f, to_z_pos w128 d (lt_trans q (lit< tt))) (to_z-of_z w128 (quot_z r (pos d)) (quot_fits w128 r (pos d) f (record { lt = lt→ltb 0 d p })))
-
 -- a rounded number is no larger
 pub round_le : (n : ℤ) (d : ℕ) → 0 < d → nat_abs (round n d) ≤ nat_abs n
 round_le n d p =
@@ -30,16 +27,50 @@ round_le n d p =
     let q : (m + d / 2) / d < m + 1 = (div-lt_iff_lt-mul p).1 (omega (arith, add-mul m 1 d, one-mul d, mul-one m)) in
     rw (abs_round n d) (omega arith)
 
--- a quotient of a quotient
-pub by_both : (m : ℤ) (a b : ℕ) → quot_z (quot_z m (pos a)) (pos b) ≡ quot_z m (pos (a * b))
-by_both (pos n) a b = ap pos (div-div-eq-div-mul n a b)
-by_both (negsuc n) a b = go (suc n / a) (div-div-eq-div-mul (suc n) a b)
-  where
-    go : (k : ℕ) → k / b ≡ suc n / (a * b) → quot_z (neg_ℤ (pos k)) (pos b) ≡ neg_ℤ (pos (suc n / (a * b)))
-    go zero e = rw (← e, zero-div b)
-    go (suc k) e = ap (λ (m : ℕ). neg_ℤ (pos m)) e
+-- a product of the series, by its size: first by 2^48, and then by n
+module _ (m n : ℕ) (z : 0 < n) where
+  abbrev pub by_both : ℕ
+  by_both = (m + n * 2 ^ 47) / 2 ^ 48 / n
 
--- a number is rounded by half of the divisor away from zero and then the quotient
-pub round_away : (n r : ℤ) (d half : ℕ) → r ≡ away n half → d / 2 ≡ half → quot_z r (pos d) ≡ round n d
-unfolding round
-round_away n r d half e h = rw (e, ← h)
+  -- it is by 2^48 · n
+  at_once : (m + unit * n / 2) / (unit * n) ≡ by_both
+  at_once = let half : unit * n / 2 ≡ n * 2 ^ 47 = omega arith in rw half (sym (div-div-eq-div-mul (m + n * 2 ^ 47) (2 ^ 48) n))
+
+  pub round_size : (s : Bool) → round (signed s m) (unit * n) ≡ signed s by_both
+  round_size s = round_signed s m (unit * n) (mul-pos (lit< tt) z) ∙ ap (signed s) at_once
+
+-- a number times one without a sign, by its size
+pub product_below : (x : ℤ) (k : ℕ) → lt_z x (pos 0) ≡ true → x *ℤ pos k ≡ signed true (nat_abs x * k)
+product_below (pos m) k t = absurd (omega (arith, ltb-true m 0 t))
+product_below (negsuc m) k t = refl
+
+pub product_above : (x : ℤ) (k : ℕ) → lt_z x (pos 0) ≡ false → x *ℤ pos k ≡ signed false (nat_abs x * k)
+product_above (pos m) k t = refl
+product_above (negsuc m) k t = let z : ◌≡◌ {A = ℕ} 0 1 = cc in absurd (omega arith)
+
+-- `round` of the code: half of the divisor away from zero, and then the quotient
+module _ (n : ℤ) (d : ℕ) (p : nat_abs n ≤ 2 ^ 126) (z : 0 < d) (l : d < 2 ^ 64) where
+  whole : Is (wide n) n (2 ^ 126)
+  whole = read (itself n (2 ^ 126) p) tt
+
+  half : Is (to_z w128 (d / 2)) (pos (d / 2)) (2 ^ 63)
+  half = natural (d / 2) (2 ^ 63) (omega arith) tt
+
+  abbrev pub Rounded : (x : ℤ) → Type 0
+  Rounded x = (wide (quot_z x (to_z w128 d)) ≡ round n d) × (nat_abs (wide (quot_z x (to_z w128 d))) ≤ nat_abs n)
+
+  -- a dividend y, which the code has as x
+  rounded : {x y : ℤ} → Is x y (2 ^ 126 + 2 ^ 63) → quot_z y (pos d) ≡ round n d → Rounded x
+  rounded h e =
+      let q = over d (to_z_pos w128 d (lt_trans l (lit< tt))) z h in
+      let r = read (record { is = q.is; le = le_trans q.le (div-le_self (2 ^ 126 + 2 ^ 63) d) }) tt in
+      let f = r.is ∙ e in
+      (f, rw f (round_le n d z))
+
+  pub rounded_below : (x : ℤ) → x ≡ wide (wide n -ℤ to_z w128 (d / 2)) → lt_z n (pos 0) ≡ true → Rounded x
+  unfolding round
+  rounded_below x e t = let h = read (minus whole half) tt in rounded (record { is = e ∙ h.is; le = h.le }) (rw t)
+
+  pub rounded_above : (x : ℤ) → x ≡ wide (wide n +ℤ to_z w128 (d / 2)) → lt_z n (pos 0) ≡ false → Rounded x
+  unfolding round
+  rounded_above x e t = let h = read (plus whole half) tt in rounded (record { is = e ∙ h.is; le = h.le }) (rw t)

@@ -7,7 +7,7 @@ ghost use Rattle.analog.specs.Decay as D;
 ghost use Rattle.analog.specs.Theorems.Bounds.{Below};
 
 use crate::types::{Factors, Series};
-use crate::wide::{away, round};
+use crate::wide::round;
 use time::Duration;
 
 // One.
@@ -48,14 +48,15 @@ pub(crate) struct Angle {
     ghost small: { size ≤ 2 ^ 44 },
 }
 
-// A product of the series by 2^48 · n, rounded: by 2^48 and then by n, of 64 bits. `round` of both at once divides by a
-// variable in 128 bits, and a setting that moves takes twice the time.
+// A product of the series by 2^48 · n, rounded, by its size: `round` of the product divides by a variable in 128 bits,
+// and a setting that moves takes twice the time.
 fn share(x: i64, angle: Angle, n: u64) -> i64
     requires { (unsigned_abs x ≤ 2 ^ 50) × (0 < n) × (n ≤ 12) }
     ensures { (result ≡ R.round (x *ℤ pos angle.size) (D.unit * n)) × (unsigned_abs result ≤ 2 ^ 47) }
 {
-    let p = away(x as i128 * angle.size as i128, n * (Q / 2));
-    (p / Q as i128) as i64 / n as i64
+    let product = x.unsigned_abs() as u128 * angle.size as u128;
+    let size = ((product + (n * (Q / 2)) as u128) >> 48) as u64 / n;
+    if x < 0 { -(size as i64) } else { size as i64 }
 }
 
 // The next term of the series, and the sums with it.

@@ -1,33 +1,48 @@
-use Rattle.std.proofs.Common.{◌≡◌, ◌*◌, ◌/◌, ◌^◌, pos, ◌*ℤ◌, refl, ◌∙◌, le_trans, arith, lit<, w64, to_z}
-use lib.Signed.{quot_z}
+use Rattle.std.proofs.Common.{◌≡◌, ◌+◌, ◌*◌, ◌/◌, ◌^◌, ◌<◌, ◌≤◌, ℕ, ℤ, true, false, pos, ◌-ℤ◌, ◌*ℤ◌, nat_abs, sym, ap, ◌∙◌, le_trans, mul-le-mul, arith, w64, to_z}
+use lib.Signed.{lt_z}
 use Rattle.std.proofs.Math.Nat.{div-le_self}
-use Rattle.std.proofs.lemmas.Int.{to_z_pos}
+use Rattle.std.proofs.lemmas.Int.{to_z-of_z}
 use Rattle.analog.specs.Round.{round}
 use Rattle.analog.specs.Decay.{unit}
-use Rattle.analog.proofs.Held.{wide, word, Is, itself, natural, times, over, away, further, read, read_64, fits_64}
-use Rattle.analog.proofs.Words.{by_both, round_away}
+use Rattle.analog.proofs.Held.{Is, natural_64, opposite, read_64}
+use Rattle.analog.proofs.Words.{by_both, round_size, product_below, product_above}
 use Rattle.analog.proofs.decay.share.Goals as goal
 
--- by 2^48, and then by n
-module _ (c : goal.After-away-p) where
-  by_unit : Is (word (wide (quot_z (wide c.away-p.result) (pos unit)))) (quot_z (away (c.args.x *ℤ pos c.args.angle.size) (c.args.n * 2 ^ 47)) (pos unit)) (2 ^ 47)
-  by_unit =
-      let x = c.args in let p = c.requires in
-      let dividend = read (times (read (read_64 (itself x.x (2 ^ 50) p.0) tt) tt) (natural x.angle.size (2 ^ 44) x.angle.small tt)) tt in
-      let f = further (x.n * 2 ^ 47) dividend in
-      let a : Is c.away-p.result (away (x.x *ℤ pos x.angle.size) (x.n * 2 ^ 47)) (2 ^ 95) = record { is = c.away-p.ensures ∙ f.is; le = le_trans f.le (omega arith) } in
-      read_64 (read (over unit refl (lit< tt) (read a tt)) tt) tt
+-- the size is small
+size_le : (m angle n : ℕ) (z : 0 < n) → m ≤ 2 ^ 50 → angle ≤ 2 ^ 44 → n ≤ 12 → by_both (m * angle) n z ≤ 2 ^ 47
+size_le m angle n z p q l =
+    let h : m * angle ≤ 2 ^ 50 * 2 ^ 44 = mul-le-mul p q in
+    let k : (m * angle + n * 2 ^ 47) / 2 ^ 48 ≤ 2 ^ 47 = omega arith in
+    le_trans (div-le_self ((m * angle + n * 2 ^ 47) / 2 ^ 48) n) k
 
-  by_n : Is (quot_z (word (wide (quot_z (wide c.away-p.result) (pos unit)))) (to_z w64 c.args.n)) (round (c.args.x *ℤ pos c.args.angle.size) (unit * c.args.n)) (2 ^ 47)
-  by_n =
-      let n = c.args.n in let z = c.args.x *ℤ pos c.args.angle.size in
-      let o = over n (to_z_pos w64 n (omega arith)) c.requires.1 by_unit in
-      let half : unit * n / 2 ≡ n * 2 ^ 47 = omega arith in
-      let e = by_both (away z (n * 2 ^ 47)) unit n ∙ round_away z (away z (n * 2 ^ 47)) (unit * n) (n * 2 ^ 47) refl half in
-      record { is = o.is ∙ e; le = rw (← e) (le_trans o.le (div-le_self (2 ^ 47) n)) }
+-- what the code returns, of a size u
+module _ (x : ℤ) (u angle n : ℕ) (m : u ≡ nat_abs x) (p : nat_abs x ≤ 2 ^ 50) (q : angle ≤ 2 ^ 44) (z : 0 < n) (l : n ≤ 12) where
+  size : Is (to_z w64 (by_both (u * angle) n z)) (pos (by_both (nat_abs x * angle) n z)) (2 ^ 47)
+  size = rw m (natural_64 (by_both (nat_abs x * angle) n z) (2 ^ 47) (size_le (nat_abs x) angle n z p q l) tt)
 
-pub nonzero_div-result-2 : goal.nonzero_div-result-2
-nonzero_div-result-2 c = (c.requires.1, fits_64 (by_n c) tt)
+  below : lt_z x (pos 0) ≡ true → Is (pos 0 -ℤ to_z w64 (by_both (u * angle) n z)) (round (x *ℤ pos angle) (unit * n)) (2 ^ 47)
+  below t =
+      let o = opposite size in
+      let e = ap (λ (y : ℤ). round y (unit * n)) (product_below x angle t) ∙ round_size (nat_abs x * angle) n z true in
+      record { is = o.is ∙ sym e; le = rw e o.le }
 
-pub returns : goal.returns
-returns c = let r = read_64 (by_n c) tt in (r.is, rw r.is r.le)
+  above : lt_z x (pos 0) ≡ false → Is (to_z w64 (by_both (u * angle) n z)) (round (x *ℤ pos angle) (unit * n)) (2 ^ 47)
+  above t =
+      let e = ap (λ (y : ℤ). round y (unit * n)) (product_above x angle t) ∙ round_size (nat_abs x * angle) n z false in
+      record { is = size.is ∙ sym e; le = rw e size.le }
+
+pub returns-then-x-lt0 : goal.returns-then-x-lt0
+returns-then-x-lt0 c =
+    let x = c.args in let p = c.requires in
+    let e = to_z-of_z w64 x.x c.ranges.x in
+    let m : c.unsigned_abs.result ≡ nat_abs x.x = rw e at c.unsigned_abs.ensures.value in
+    let r = read_64 (below x.x c.unsigned_abs.result x.angle.size x.n m p.0 x.angle.small p.1 p.2 (rw e at c.if-x-lt0.true)) tt in
+    (r.is, rw r.is r.le)
+
+pub returns-else-x-lt0 : goal.returns-else-x-lt0
+returns-else-x-lt0 c =
+    let x = c.args in let p = c.requires in
+    let e = to_z-of_z w64 x.x c.ranges.x in
+    let m : c.unsigned_abs.result ≡ nat_abs x.x = rw e at c.unsigned_abs.ensures.value in
+    let r = above x.x c.unsigned_abs.result x.angle.size x.n m p.0 x.angle.small p.1 p.2 (rw e at c.if-x-lt0.false) in
+    (r.is, rw r.is r.le)
