@@ -1,5 +1,5 @@
 // Any motion: an observation is compared with the one three earlier.
-ghost use Rattle.std.specs.Prelude.{◌≡◌, ◌<◌, set};
+ghost use Rattle.std.specs.Prelude.{◌≡◌};
 ghost use Rattle.interrupts.specs.State.{moved, moves, record_codes, count_motion, qualifies, alerts, detects, decide, observation, cycle};
 
 use crate::Interrupts;
@@ -52,30 +52,14 @@ fn detects(set: u8, need: u8, registers: [u8; 62]) -> bool
     qualifies(set, need, registers) && !has(criteria, ALERT) && has(criteria, ANY_MOTION)
 }
 
-// An observation put at its place. Only constants index the history: at `history[place] = codes` the compiler keeps the whole record
-// in memory, and a sample phase takes 450 instructions in place of 414.
-fn put(history: [[i16; 3]; 3], place: u8, codes: [i16; 3]) -> [[i16; 3]; 3]
-    requires { place < 3 }
-    ensures { result ≡ set history place codes }
-{
-    let mut changed = history;
-    match place {
-        0 => changed[0] = codes,
-        1 => changed[1] = codes,
-        _ => changed[2] = codes,
-    }
-    changed
-}
-
 impl Interrupts {
     // The observation takes the place of the one three earlier.
-    fn record_codes(self, codes: [i16; 3]) -> Interrupts
+    fn record_codes(mut self, codes: [i16; 3]) -> Interrupts
         ensures { result ≡ record_codes self codes }
     {
         let place = self.cursor % 3;
-        let history = put(self.history, place, codes);
+        self.history[usize::from(place)] = codes;
         Interrupts {
-            history,
             cursor: (place + 1) % 3,
             observations: self.observations.saturating_add(1).min(4),
             divider: 0,
