@@ -156,6 +156,7 @@ impl Analog {
         }
     }
 
+    // The axis of a number, z from 2 on. No enum of three: a type of three values would ask more of callers.
     #[tactic(auto, unfolding(crate::specs::Axis::axis_of))]
     pub fn axis(self, axis: u8) -> Axis
         ensures { result ≡ Ax.axis_of self axis }

@@ -72,6 +72,7 @@ impl Line {
         self.put(digit(b % 16));
     }
 
+    // The loop of `word` with another method: a closure for it would need the line lent twice.
     #[tactic(auto, using(crate::proofs::Appended::none, crate::proofs::Appended::hexes_step))]
     pub(crate) fn hexes(&mut self, w: &[u8])
         ensures { self.new ≡ T.appended self.old (T.hexes w.now) }

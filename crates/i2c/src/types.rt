@@ -43,7 +43,8 @@ pub enum Answer {
     NotAcknowledge,
 }
 
-// Acknowledge: 0 the eighth rise has passed, 1 the pin is held low, 2 the ninth rise has passed. Read: the bits taken.
+// Acknowledge: 0 the eighth rise has passed, 1 the pin is held low, 2 the ninth rise has passed (01 keeps the edge's
+// number). Read: the bits taken.
 #[derive(Clone, Copy, Debug, PartialEq, Eq)]
 pub enum Phase {
     Idle,

@@ -32,7 +32,7 @@ impl Interrupts {
             .tick(enabled, self.durations[0], counter_lg(criteria))
     }
 
-    // High-g counts.
+    // High-g counts. One function for both would take the state, the bit, the duration and the mode as parameters, and do no more than `tick`.
     fn tick_high(self, registers: [u8; 62]) -> (HighG, bool)
         ensures { result ≡ tick_high self registers }
     {

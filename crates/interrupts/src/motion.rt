@@ -27,7 +27,8 @@ fn moves(earlier: [i16; 3], codes: [i16; 3], threshold: u8) -> bool
         .any(|(new, old)| moved(*new, *old, threshold))
 }
 
-// Enough observations in a row have moved, and enable_adv_INT is set.
+// Enough observations in a row have moved, and enable_adv_INT is set. `set`, `need` and the registers go from here to the two tests
+// below and no further: a record of them would be made only to be taken apart.
 #[tactic(auto, unfolding(crate::specs::State::qualifies))]
 fn qualifies(set: u8, need: u8, registers: [u8; 62]) -> bool
     ensures { result ≡ qualifies set need registers }

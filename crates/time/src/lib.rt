@@ -27,7 +27,7 @@ pub struct Clock {
 }
 
 impl Time {
-    // The units since the start of time.
+    // The units since the start of time. A moment and a length each have their own: 01 keeps them two types.
     fn ticks(self) -> u128
         ensures { result ≡ T.ticks self }
     {
