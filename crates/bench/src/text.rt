@@ -72,7 +72,7 @@ impl Line {
         self.put(digit(b % 16));
     }
 
-    // The loop of `word` with another method: a closure for it would need the line lent twice.
+    // The loop of `word` with another method. One function for both would take the method as a parameter, with its contract, for one line.
     #[tactic(auto, using(crate::proofs::Appended::none, crate::proofs::Appended::hexes_step))]
     pub(crate) fn hexes(&mut self, w: &[u8])
         ensures { self.new ≡ T.appended self.old (T.hexes w.now) }
