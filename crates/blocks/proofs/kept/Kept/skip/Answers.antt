@@ -1,7 +1,7 @@
 use Rattle.std.specs.Prelude.{◌≤◌, length, drop}
 use Rattle.std.proofs.Common.{arith, ap, ◌∙◌}
-use Rattle.bench_stream.proofs.Buffer.{kept, shorter}
-use Rattle.bench_stream.proofs.kept.Kept.skip.Goals as goal
+use Rattle.blocks.proofs.Buffer.{kept, shorter}
+use Rattle.blocks.proofs.kept.Kept.skip.Goals as goal
 
 pub returns : goal.returns
 returns c =
