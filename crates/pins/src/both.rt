@@ -57,19 +57,12 @@ pub(crate) fn start(operation: u8) -> Sensor {
         i2c: State::new(),
         frame: Frame::fresh(false),
         registers: sampled(operation),
-        operation: operation,
+        operation,
         quiet: false,
         awake: true,
         consumed: false,
         hidden: false,
         viewed: 0,
-    }
-}
-
-fn is_nothing(tx: Sent) -> bool {
-    match tx {
-        Sent::Nothing => true,
-        Sent::Byte(_) => false,
     }
 }
 
@@ -82,26 +75,7 @@ fn drive_number(d: Drive) -> u8 {
     }
 }
 
-fn weigh(x: bool, weight: u8) -> u8 {
-    if x {
-        return weight;
-    }
-    0
-}
-
 impl Sensor {
-    pub(crate) fn with_i2c(self, i2c: State) -> Sensor {
-        let mut s = self;
-        s.i2c = i2c;
-        s
-    }
-
-    pub(crate) fn with_frame(self, frame: Frame) -> Sensor {
-        let mut s = self;
-        s.frame = frame;
-        s
-    }
-
     pub(crate) fn four_wire(self) -> bool {
         has(self.registers[0x15], SPI4)
     }
@@ -118,112 +92,79 @@ impl Sensor {
 
     // The byte of a register, or none where a read is withheld.
     pub(crate) fn fetched(self, address: u8) -> Sent {
-        if withheld(address, self.gate()) {
+        if withheld(address, self.gate()) || address >= 62 {
             return Sent::Nothing;
         }
-        if 62 <= address {
-            return Sent::Nothing;
-        }
-        Sent::Byte(self.registers[address as usize])
+        Sent::Byte(self.registers[usize::from(address)])
     }
 
     // The first bit of a register's byte is taken: new_data of its axis clears.
-    pub(crate) fn noted(self, address: u8) -> Sensor {
-        let mut s = self;
-        let f = self.frame;
-        let tx = f.tx;
-        if is_nothing(tx) {
-            return s;
+    pub(crate) fn noted(mut self, address: u8) -> Sensor {
+        let sends = matches!(self.frame.tx, Sent::Byte(_));
+        if sends && !self.quiet && matches!(address, 2..=7) {
+            self.registers[usize::from(address & 0xfe)] &= 0xfe;
         }
-        if self.quiet {
-            return s;
-        }
-        if address < 2 {
-            return s;
-        }
-        if 7 < address {
-            return s;
-        }
-        let low = (address - address % 2) as usize;
-        s.registers[low] = s.registers[low] & 0xfe;
-        s
+        self
     }
 
     fn reset(self) -> Sensor {
-        let f = self.frame;
-        let g = f.sending(Sent::Nothing);
         Sensor {
             i2c: State::new(),
-            frame: g.released(),
+            frame: self.frame.sending(Sent::Nothing).released(),
             registers: reloaded(self.operation),
-            operation: self.operation,
             quiet: true,
             awake: false,
-            consumed: self.consumed,
             hidden: false,
             viewed: 0,
+            ..self
         }
     }
 
-    fn stored_at(self, address: u8, value: u8) -> Sensor {
-        let mut s = self;
+    fn stored_at(mut self, address: u8, value: u8) -> Sensor {
         if address < 62 {
-            s.registers[address as usize] = value;
+            self.registers[usize::from(address)] = value;
         }
-        s
+        self
     }
 
     // A write to a register.
     pub(crate) fn written(self, address: u8, value: u8) -> Sensor {
-        if ignores(address, value, self.gate()) {
-            return self;
+        if ignores(address, value, self.gate()) || stored(address) {
+            self
+        } else if address != 0x0a {
+            self.stored_at(address, value)
+        } else if has(value, SOFT_RESET) {
+            self.reset()
+        } else {
+            self.stored_at(address, value & 0x3d)
         }
-        if stored(address) {
-            return self;
-        }
-        if address != 0x0a {
-            return self.stored_at(address, value);
-        }
-        if has(value, SOFT_RESET) {
-            return self.reset();
-        }
-        self.stored_at(address, value & 0x3d)
     }
 
     fn driven(self) -> u8 {
-        let f = self.frame;
-        let d = f.driven;
-        if !f.selected {
-            return 0;
+        if self.frame.selected && !self.quiet {
+            drive_number(self.frame.driven)
+        } else {
+            0
         }
-        if self.quiet {
-            return 0;
-        }
-        drive_number(d)
     }
 
     fn output(self) -> u8 {
-        if !self.four_wire() {
-            return 0;
-        }
-        self.driven()
+        if self.four_wire() { self.driven() } else { 0 }
     }
 
     fn data_output(self) -> u8 {
-        let f = self.frame;
-        let i = self.i2c;
-        if !f.selected {
-            return weigh(i.low, 1);
+        if !self.frame.selected {
+            u8::from(self.i2c.low)
+        } else if self.four_wire() {
+            0
+        } else {
+            self.driven()
         }
-        if self.four_wire() {
-            return 0;
-        }
-        self.driven()
     }
 
     // Both outputs, and what the last event told.
     pub(crate) fn pins(self) -> u8 {
-        let told = weigh(self.consumed, 16) | weigh(self.hidden, 32);
+        let told = u8::from(self.consumed) << 4 | u8::from(self.hidden) << 5;
         told | self.data_output() << 2 | self.output()
     }
 }

@@ -2,6 +2,7 @@
 // 20 and 21 a rise with that data level, 30 a fall, 40 the quiet time ends, 60 and 61 a start in four- or three-wire
 // mode, 80..ff a view of a register.
 use crate::both::{Sensor, start};
+use blocks::Answers;
 use i2c::types::{Action, Levels};
 use registers::fields::has;
 use spi::types::{Clocked, FirstBit, Sent, Shift, Write};
@@ -14,41 +15,37 @@ fn sent_byte(tx: Sent) -> u8 {
     }
 }
 
-fn nothing_told(s: Sensor) -> Sensor {
-    let mut t = s;
-    t.consumed = false;
-    t.hidden = false;
-    t.viewed = 0;
-    t
-}
-
-// Whether converted values were used, which shows only while a sample is next.
-fn told(s: Sensor, consumes: bool) -> Sensor {
-    let mut t = s;
-    if s.awake {
-        t.consumed = consumes;
-    }
-    t
-}
-
 impl Sensor {
+    // Whether converted values were used, which shows only while a sample is next.
+    fn told(self, consumes: bool) -> Sensor {
+        Sensor {
+            consumed: if self.awake { consumes } else { self.consumed },
+            ..self
+        }
+    }
+
     fn launched(self, address: u8) -> Sensor {
         let tx = self.fetched(address);
-        let f = self.frame;
-        let i = self.i2c;
-        let s = self.with_frame(f.sending(tx));
-        s.with_i2c(i.launched(sent_byte(tx)))
+        Sensor {
+            frame: self.frame.sending(tx),
+            i2c: self.i2c.launched(sent_byte(tx)),
+            ..self
+        }
     }
 
     fn i2c_written(self, address: u8, value: u8) -> Sensor {
         let s = self.written(address, value);
-        let i = s.i2c;
-        s.with_i2c(i.written(s.quiet))
+        Sensor {
+            i2c: s.i2c.written(s.quiet),
+            ..s
+        }
     }
 
     fn dropped(self) -> Sensor {
-        let f = self.frame;
-        self.with_frame(f.sending(Sent::Nothing))
+        Sensor {
+            frame: self.frame.sending(Sent::Nothing),
+            ..self
+        }
     }
 
     fn acted(self, action: Action) -> Sensor {
@@ -62,18 +59,20 @@ impl Sensor {
     }
 
     fn reported(self, before: Levels, after: Levels) -> Sensor {
-        let f = self.frame;
-        let i = self.i2c;
-        let tx = f.tx;
-        if f.selected {
-            return self.with_i2c(i.abort());
+        if self.frame.selected {
+            return Sensor {
+                i2c: self.i2c.abort(),
+                ..self
+            };
         }
-        let s = told(self, !self.quiet && i.consumes_conversion(before, after));
-        let step = i.step(before, after, self.quiet, sent_byte(tx));
-        let next = step.state;
-        let action = step.action;
-        let t = s.with_i2c(next);
-        t.acted(action)
+        let s = self.told(!self.quiet && self.i2c.consumes_conversion(before, after));
+        let sent = sent_byte(self.frame.tx);
+        let step = self.i2c.step(before, after, self.quiet, sent);
+        let moved = Sensor {
+            i2c: step.state,
+            ..s
+        };
+        moved.acted(step.action)
     }
 
     fn report(self, e: u8) -> Sensor {
@@ -89,31 +88,31 @@ impl Sensor {
     }
 
     fn select(self, selected: bool) -> Sensor {
-        let f = self.frame;
-        let i = self.i2c;
-        if f.changes(selected) {
-            let s = self.with_i2c(i.abort());
-            return s.with_frame(f.select(selected));
+        if !self.frame.changes(selected) {
+            return self;
         }
-        self
+        Sensor {
+            i2c: self.i2c.abort(),
+            frame: self.frame.select(selected),
+            ..self
+        }
     }
 
     // The output at an edge.
     fn shifted(self, at: Clocked) -> Sensor {
-        let f = self.frame;
-        let tx = f.tx;
-        let shift = f.shifts(at, self.four_wire());
-        match shift {
-            Shift::Stay => self,
-            Shift::Fetch(a) => self.with_frame(f.shifted(self.fetched(a))),
-            Shift::Next => self.with_frame(f.shifted(tx)),
+        let tx = match self.frame.shifts(at, self.four_wire()) {
+            Shift::Stay => return self,
+            Shift::Fetch(a) => self.fetched(a),
+            Shift::Next => self.frame.tx,
+        };
+        Sensor {
+            frame: self.frame.shifted(tx),
+            ..self
         }
     }
 
     fn acknowledged(self) -> Sensor {
-        let f = self.frame;
-        let a = f.first_bit();
-        match a {
+        match self.frame.first_bit() {
             FirstBit::Nothing => self,
             FirstBit::Register(address) => self.noted(address),
         }
@@ -129,78 +128,74 @@ impl Sensor {
     // A bit is taken.
     fn taken(self, mosi: bool) -> Sensor {
         let s = self.acknowledged();
-        let f = s.frame;
-        let t = f.take_bit(mosi, s.four_wire());
-        let g = t.frame;
-        let w = t.write;
-        let u = s.with_frame(g);
-        let v = u.spi_written(w);
-        v.shifted(Clocked::Rise)
+        let bit = s.frame.take_bit(mosi, s.four_wire());
+        let next = Sensor {
+            frame: bit.frame,
+            ..s
+        };
+        next.spi_written(bit.write).shifted(Clocked::Rise)
     }
 
     fn rise(self, mosi: bool) -> Sensor {
-        let f = self.frame;
-        if !f.selected {
+        if !self.frame.selected || self.quiet {
             return self;
         }
-        if self.quiet {
-            return self;
+        let s = self.told(self.frame.consumes_at_rise());
+        if !self.frame.turnaround {
+            return s.taken(mosi);
         }
-        let s = told(self, f.consumes_at_rise());
-        if f.turnaround {
-            let t = s.with_frame(f.turned());
-            return t.shifted(Clocked::Turnaround);
-        }
-        s.taken(mosi)
+        let turned = Sensor {
+            frame: self.frame.turned(),
+            ..s
+        };
+        turned.shifted(Clocked::Turnaround)
     }
 
     fn fall(self) -> Sensor {
-        let f = self.frame;
-        if f.selected {
-            let consumes = !self.quiet && f.consumes_at_fall(self.four_wire());
-            let s = told(self, consumes);
-            return s.shifted(Clocked::Fall);
-        }
-        self.shifted(Clocked::Fall)
+        let s = if self.frame.selected {
+            self.told(!self.quiet && self.frame.consumes_at_fall(self.four_wire()))
+        } else {
+            self
+        };
+        s.shifted(Clocked::Fall)
     }
 
     fn view(self, address: u8) -> Sensor {
-        let mut s = self;
-        let seen = self.fetched(address);
-        match seen {
-            Sent::Nothing => {
-                s.hidden = true;
-                s
-            }
-            Sent::Byte(b) => {
-                s.viewed = b;
-                s
-            }
+        match self.fetched(address) {
+            Sent::Nothing => Sensor {
+                hidden: true,
+                ..self
+            },
+            Sent::Byte(b) => Sensor { viewed: b, ..self },
         }
     }
 
-    fn ended(self) -> Sensor {
-        let mut s = self;
-        s.quiet = false;
-        s
-    }
-
-    pub(crate) fn event(self, e: u8) -> Sensor {
-        let s = nothing_told(self);
-        if e < 0x10 {
-            return s.report(e);
-        }
+    fn event(self, e: u8) -> Sensor {
+        let s = Sensor {
+            consumed: false,
+            hidden: false,
+            viewed: 0,
+            ..self
+        };
         match e {
+            0x00..=0x0f => s.report(e),
             0x10 => s.select(false),
             0x11 => s.select(true),
             0x20 => s.rise(false),
             0x21 => s.rise(true),
             0x30 => s.fall(),
-            0x40 => s.ended(),
+            0x40 => Sensor { quiet: false, ..s },
             0x60 => start(0x88),
             0x61 => start(0x08),
-            128..=255 => s.view(e % 128),
+            0x80..=0xff => s.view(e % 128),
             _ => s,
         }
+    }
+}
+
+impl Answers<1, 2> for Sensor {
+    fn answer(&mut self, item: &[u8; 1]) -> [u8; 2] {
+        *self = self.event(item[0]);
+        [self.pins(), self.viewed]
     }
 }
