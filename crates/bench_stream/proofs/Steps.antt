@@ -1,11 +1,14 @@
 -- What the functions of a turn do, as turns.
-use Rattle.std.specs.Prelude.{◌≡◌, refl, Bool, true, false, cond, List, [], ◌++◌, ℕ, ◌≤◌, eqb, length, take, drop, Option, None, Some, Result, Ok, Err, OnOk, is_ok}
-use Rattle.std.proofs.Common.{sym, subst}
+use Rattle.std.specs.Prelude.{◌≡◌, refl, Bool, true, false, cond, List, [], ◌++◌, ℕ, ◌≤◌, eqb, length, take, drop, Option, None, Some, Result, Ok, Err, OnOk, is_ok, get_or, ◌<◌}
+use Rattle.std.proofs.Common.{sym, subst, ◌∙◌, arith, eqb-true}
 use Rattle.std.proofs.lemmas.List.Edits.{sets}
-use Rattle.std.specs.Io.KnownBytes.{Appends, Consumes, Keeps}
+use Rattle.std.specs.Io.KnownBytes.{Appends, Consumes, Keeps, IsAtEnd}
 use Rattle.std.proofs.KnownBytes.{Appends-nil, Consumes-nil, Consumes-kept}
+use Rattle.machine.specs.Block as M
+use Rattle.commands.proofs.Theorems.More.{wants_few}
 use Rattle.bench.specs.declared.Ran.{Ran}
 use Rattle.bench.specs.Block.{is_whole, block, answer}
+use Rattle.bench.specs.Theorems.Loop as L
 use Rattle.bench_stream.specs.declared.Failed.{Failed}
 use Rattle.bench_stream.specs.declared.Turn.{Turn}
 use Rattle.bench_stream.specs.Loop.{goes_on, Enough, arrived, cut_off, Did, Wrote, Stepped}
@@ -20,15 +23,20 @@ module _ (trace : Bool) (t : Turn) (k : List ℕ) where
   turned : (u : Turn) {w : Turn} {l o : List ℕ} {a b c d : Option (List ℕ)} → w ≡ u → Stepped trace t k u l o a b c d → Stepped trace t k w l o a b c d
   turned u {w} {l} {o} {a} {b} {c} {d} e s = subst (λ (x : Turn). Stepped trace t k x l o a b c d) (sym e) s
 
+  -- a command that is not whole has few bytes
+  room : is_whole false k ≡ false → length k < 65536
+  unfolding M.least
+  room few = omega (arith, L.short trace false k few, wants_few (get_or k 0 0))
+
   module _ (p : goes_on t k ≡ true) (more : t.over ≡ false) (few : is_whole false k ≡ false) {a b : Option (List ℕ)} {l : List ℕ} (o : List ℕ) (v : Option (List ℕ)) where
     -- a read brought a piece
-    pub read : {n : ℕ} (piece : List ℕ) → l ≡ k ++ piece → length piece ≡ n → Consumes a b piece
+    pub read : {n : ℕ} (piece : List ℕ) → l ≡ k ++ piece → length piece ≡ n → Consumes a b piece → (n ≡ 0 → length k < 65536 → IsAtEnd b)
         → Stepped trace t k (record { over = eqb n 0; stop = t.stop; failed = t.failed; written = 0; sensor = t.sensor }) l o a b v v
-    read {n} piece e f h =
+    read {n} piece e f h z =
         let is : ◌≡◌ {A = Turn} (record { over = eqb n 0; stop = t.stop; failed = t.failed; written = 0; sensor = t.sensor }) (arrived (length piece) t.sensor) =
         rw (f, (going t k p).not_stopped, (going t k p).not_failed) refl in
         turned (arrived (length piece) t.sensor) is
-        (rw e (record { piece = piece; text = []; did = Did.read piece more few; shown = refl; took = h; wrote = Appends-nil v }))
+        (rw e (record { piece = piece; text = []; did = Did.read piece more few; shown = refl; took = h; all = λ y s. z (sym f ∙ eqb-true (length piece) 0 y) (room few); wrote = Appends-nil v }))
 
     -- or failed
     pub cut : l ≡ k → Keeps a b
@@ -37,7 +45,7 @@ module _ (trace : Bool) (t : Turn) (k : List ℕ) where
         let is : ◌≡◌ {A = Turn} (record { over = t.over; stop = t.stop; failed = Some Failed.Read; written = 0; sensor = t.sensor }) (cut_off t.sensor) =
         rw (more, (going t k p).not_stopped) refl in
         turned (cut_off t.sensor) is
-        (rw e (record { piece = []; text = []; did = Did.failed more few; shown = refl; took = Consumes-kept a a b [] (Consumes-nil a) h; wrote = Appends-nil v }))
+        (rw e (record { piece = []; text = []; did = Did.failed more few; shown = refl; took = Consumes-kept a a b [] (Consumes-nil a) h; all = λ y s. contrary y; wrote = Appends-nil v }))
 
   -- a block was served
   wrote : (taken : Bool) (v w : Option (List ℕ)) (text : List ℕ) → (taken ≡ true → Appends v w text) → Wrote (cond taken None (Some Failed.Write)) v w text
@@ -58,5 +66,6 @@ module _ (trace : Bool) (t : Turn) (k : List ℕ) where
         did = Did.served r taken enough within is left;
         shown = front;
         took = Consumes-nil a;
+        all = λ y s. s y;
         wrote = wrote taken v w text (λ (y : taken ≡ true). subst (Appends v w) front (h y));
       })

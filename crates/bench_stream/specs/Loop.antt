@@ -1,6 +1,6 @@
 -- What the bench program's loop does: turns, each of which reads, or serves a block and hands its text to `write`.
 use Rattle.std.specs.Prelude.{◌≡◌, Bool, true, false, not, ◌&&◌, ◌||◌, ◌⊎◌, List, [], ◌++◌, ℕ, ◌+◌, ◌-◌, ◌^◌, ◌≤◌, ltb, eqb, length, take, drop, Option, None, Some, is_none, if◌then◌else◌}
-use Rattle.std.specs.Io.KnownBytes.{Appends, Consumes}
+use Rattle.std.specs.Io.KnownBytes.{Appends, Consumes, IsAtEnd}
 use Rattle.sensor.specs.Image.{stock}
 use Rattle.calls.specs.declared.types.Starting.TheVariants as Starting
 use Rattle.bma150.specs.declared.host.Bma150.{Bma150}
@@ -51,13 +51,14 @@ Wrote None old new text = Appends old new text
 Wrote (Some Failed.Read) old new text = Appends old new text
 Wrote (Some Failed.Write) old new text = Unit {0}
 
--- a turn's piece is what the input lost, from a to b; its text is what the output got, from v to w, and stands at the front of the buffer o for text, as many bytes as the turn says
+-- a turn's piece is what the input lost, from a to b, and nothing is left where it is over with this turn; its text is what the output got, from v to w, and stands at the front of the buffer o for text, as many bytes as the turn says
 pub record Stepped (trace : Bool) (t : Turn) (k : List ℕ) (u : Turn) (l o : List ℕ) (a b v w : Option (List ℕ)) : Type 0 where
   pub piece : List ℕ
   pub text : List ℕ
   pub did : Did trace t k u l piece text
   pub shown : take u.written o ≡ text
   pub took : Consumes a b piece
+  pub all : u.over ≡ true → (t.over ≡ true → IsAtEnd a) → IsAtEnd b
   pub wrote : Wrote u.failed v w text
 
 -- n turns from the first on, each where something was left to do: they read l, handed w to `write`, and led to t with these bytes kept
@@ -74,8 +75,9 @@ pub record Ended (trace : Bool) (t : Turn) : Type 0 where
   pub turns : Turns trace count read handed t kept
   pub end : (goes_on t kept ≡ false) ⊎ (count ≡ 2 ^ 64 - 1)
 
--- and what it read is what the input lost, what it handed to `write` what the output got
+-- and what it read is what the input lost, all of it where the input is over; what it handed to `write` is what the output got
 pub record Streamed (trace : Bool) (t : Turn) (a b v w : Option (List ℕ)) : Type 0 where
   pub ended : Ended trace t
   pub took : Consumes a b ended.read
+  pub all : t.over ≡ true → IsAtEnd b
   pub wrote : Wrote t.failed v w ended.handed

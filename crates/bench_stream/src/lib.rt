@@ -7,15 +7,13 @@ ghost use Rattle.std.specs.Io.KnownBytes.{Keeps};
 ghost use Rattle.bench.specs.Block.{is_whole};
 ghost use Rattle.bench_stream.specs.Loop as S;
 
-use crate::kept::Kept;
 use bench::{is_whole, run};
+use blocks::Kept;
 use bma150::host::Bma150;
 use sensor::image::stock;
 use std::io;
 use std::io::{Read, Write};
 use time::Time;
-
-mod kept;
 
 // What could not be done.
 #[derive(Clone, Copy, PartialEq, Eq, Debug)]

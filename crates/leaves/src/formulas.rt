@@ -1,67 +1,75 @@
 // The functions that keep nothing: times, the torn byte, registers.
-use crate::record::{Answer, Record, raised, signed32, signed64, truth, truths};
+use crate::record::{Answer, Record, raised, truths};
 use nv::WriteCycle;
 use registers::access::{Gate, begins, ignores, stored, withheld};
 use registers::codes::{code, code_high, code_low, offset, temperature};
 use registers::fields::{has, range};
 use time::{Clock, Duration, Time};
 
-fn of_time(t: Time) -> Answer {
-    Answer(t.0, t.1)
+impl From<Time> for Answer {
+    fn from(Time(seconds, fraction): Time) -> Answer {
+        Answer(seconds, fraction)
+    }
 }
 
-fn of_duration(d: Duration) -> Answer {
-    Answer(d.0, d.1)
+impl From<Duration> for Answer {
+    fn from(Duration(seconds, fraction): Duration) -> Answer {
+        Answer(seconds, fraction)
+    }
+}
+
+impl Record {
+    // The moment n, x.
+    pub(crate) fn moment(self) -> Time {
+        Time(self.n.into(), self.x)
+    }
+
+    // The moment y, z.
+    fn other_moment(self) -> Time {
+        Time(self.y, self.z)
+    }
 }
 
 // The byte of cell 20000 hex + c at the moment y, z, in a write of b over a from the moment n, x.
 fn torn(r: Record) -> Answer {
-    let cycle = WriteCycle::start(Time(r.n as u64, r.x));
-    Answer(
-        0,
-        cycle.byte(r.a, r.b, 0x20000 + r.c as u32, Time(r.y, r.z)) as u64,
-    )
+    let cycle = WriteCycle::start(r.moment());
+    let cell = 0x20000 + u32::from(r.c);
+    Answer(0, cycle.byte(r.a, r.b, cell, r.other_moment()).into())
 }
 
 // When a write from the moment n, x ends.
 fn ends(r: Record) -> Answer {
-    let cycle = WriteCycle::start(Time(r.n as u64, r.x));
-    of_time(cycle.deadline())
+    WriteCycle::start(r.moment()).deadline().into()
 }
 
 // The moments n, x and y, z compared: whether the first precedes, whether they are one.
 fn compared(r: Record) -> Answer {
-    let t = Time(r.n as u64, r.x);
-    let u = Time(r.y, r.z);
-    Answer(truth(t.precedes(u)), truth(t.same(u)))
+    let t = r.moment();
+    let u = r.other_moment();
+    Answer(t.precedes(u).into(), t.same(u).into())
 }
 
 // A clock from the moment n, x on, as many edges further as the bytes a, b, c say.
 fn clock(r: Record) -> Clock {
-    let c = Clock::new(Time(r.n as u64, r.x));
-    c.advance(r.a as u64 * 65536 + r.b as u64 * 256 + r.c as u64)
+    Clock::new(r.moment()).advance(u32::from_be_bytes([0, r.a, r.b, r.c]).into())
 }
 
 fn edges(r: Record) -> Answer {
     let c = clock(r);
-    Answer(c.edges_before(Time(r.y, r.z)), c.ordinal())
+    Answer(c.edges_before(r.other_moment()), c.ordinal())
 }
 
 fn moments(r: Record) -> Answer {
-    let t = Time(r.n as u64, r.x);
-    let u = Time(r.y, r.z);
-    let c = clock(r);
-    let kind = r.kind;
-    match kind {
-        0x01 => of_time(t.plus(Duration(r.y, r.z))),
-        0x02 => of_duration(u.since(t)),
-        0x03 => of_time(t.next_unit()),
+    match r.kind {
+        0x01 => r.moment().plus(Duration(r.y, r.z)).into(),
+        0x02 => r.other_moment().since(r.moment()).into(),
+        0x03 => r.moment().next_unit().into(),
         0x04 => compared(r),
-        0x05 => of_duration(Duration::from_millis(r.x)),
-        0x06 => of_duration(Duration::from_micros(r.x)),
+        0x05 => Duration::from_millis(r.x).into(),
+        0x06 => Duration::from_micros(r.x).into(),
         0x07 => edges(r),
-        0x08 => of_time(c.last()),
-        0x09 => of_time(c.next()),
+        0x08 => clock(r).last().into(),
+        0x09 => clock(r).next().into(),
         0x0a => torn(r),
         _ => ends(r),
     }
@@ -69,20 +77,24 @@ fn moments(r: Record) -> Answer {
 
 // The code of the acceleration n with the offset registers a and b and the range of c, and its two registers.
 fn coded(r: Record) -> Answer {
-    let z = code(signed64(r.n), offset(r.a, r.b), range(r.c));
-    Answer(raised(z), code_high(z) as u64 * 256 + code_low(z) as u64)
+    let z = code(r.n.cast_signed().into(), offset(r.a, r.b), range(r.c));
+    Answer(
+        raised(z),
+        u16::from_be_bytes([code_high(z), code_low(z)]).into(),
+    )
 }
 
 fn warm(r: Record) -> Answer {
-    Answer(0, temperature(signed32(r.n)) as u64)
+    Answer(0, temperature(r.n.cast_signed()).into())
 }
 
 // A write takes effect.
 fn taken(r: Record, gate: Gate, starts: bool) -> bool {
     if stored(r.a) {
-        return starts;
+        starts
+    } else {
+        !ignores(r.a, r.b, gate)
     }
-    !ignores(r.a, r.b, gate)
 }
 
 // A write of b to a and a read of a, with 0a holding c. The bits of x: quiet, copying, asleep, a stored write runs.
@@ -96,14 +108,13 @@ fn access(r: Record) -> Answer {
     };
     let starts = begins(r.a, r.b, gate, has(flags, 3));
     Answer(
-        truth(taken(r, gate, starts)),
+        taken(r, gate, starts).into(),
         truths(starts, withheld(r.a, gate)),
     )
 }
 
 pub(crate) fn formula(r: Record) -> Answer {
-    let kind = r.kind;
-    match kind {
+    match r.kind {
         0x10 => coded(r),
         0x11 => warm(r),
         0x12 => access(r),

@@ -75,10 +75,6 @@ fn drive_number(d: Drive) -> u8 {
     }
 }
 
-fn weigh(x: bool, weight: u8) -> u8 {
-    if x { weight } else { 0 }
-}
-
 impl Sensor {
     pub(crate) fn four_wire(self) -> bool {
         has(self.registers[0x15], SPI4)
@@ -160,14 +156,14 @@ impl Sensor {
 
     fn data_output(self) -> u8 {
         if !self.frame.selected {
-            return weigh(self.i2c.low, 1);
+            return u8::from(self.i2c.low);
         }
         if self.four_wire() { 0 } else { self.driven() }
     }
 
     // Both outputs, and what the last event told.
     pub(crate) fn pins(self) -> u8 {
-        let told = weigh(self.consumed, 16) | weigh(self.hidden, 32);
+        let told = u8::from(self.consumed) << 4 | u8::from(self.hidden) << 5;
         told | self.data_output() << 2 | self.output()
     }
 }

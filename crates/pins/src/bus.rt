@@ -2,6 +2,7 @@
 // 20 and 21 a rise with that data level, 30 a fall, 40 the quiet time ends, 60 and 61 a start in four- or three-wire
 // mode, 80..ff a view of a register.
 use crate::both::{Sensor, start};
+use blocks::Answers;
 use i2c::types::{Action, Levels};
 use registers::fields::has;
 use spi::types::{Clocked, Shift};
@@ -9,15 +10,6 @@ use spi::types::{Clocked, Shift};
 // The byte that I2C sends: ones where there is none.
 fn sent_byte(tx: Option<u8>) -> u8 {
     tx.unwrap_or(0xff)
-}
-
-fn nothing_told(s: Sensor) -> Sensor {
-    Sensor {
-        consumed: false,
-        hidden: false,
-        viewed: 0,
-        ..s
-    }
 }
 
 impl Sensor {
@@ -147,15 +139,13 @@ impl Sensor {
         self
     }
 
-    fn ended(self) -> Sensor {
-        Sensor {
-            quiet: false,
+    fn event(self, e: u8) -> Sensor {
+        let s = Sensor {
+            consumed: false,
+            hidden: false,
+            viewed: 0,
             ..self
-        }
-    }
-
-    pub(crate) fn event(self, e: u8) -> Sensor {
-        let s = nothing_told(self);
+        };
         match e {
             0x00..=0x0f => s.report(e),
             0x10 => s.select(false),
@@ -163,11 +153,18 @@ impl Sensor {
             0x20 => s.rise(false),
             0x21 => s.rise(true),
             0x30 => s.fall(),
-            0x40 => s.ended(),
+            0x40 => Sensor { quiet: false, ..s },
             0x60 => start(0x88),
             0x61 => start(0x08),
             0x80..=0xff => s.view(e % 128),
             _ => s,
         }
+    }
+}
+
+impl Answers<1, 2> for Sensor {
+    fn answer(&mut self, item: &[u8; 1]) -> [u8; 2] {
+        *self = self.event(item[0]);
+        [self.pins(), self.viewed]
     }
 }

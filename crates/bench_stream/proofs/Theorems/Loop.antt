@@ -1,8 +1,8 @@
 -- What the loop has read and handed to `write`.
 use Rattle.std.specs.Prelude.{◌≡◌, refl, Bool, true, false, List, [], ◌++◌, ℕ, ◌+◌, ◌-◌, ◌^◌, length, drop, Option, None, Some}
-use Rattle.std.proofs.Common.{sym, ap, subst, inl, inr, append-nil}
+use Rattle.std.proofs.Common.{◌∙◌, sym, ap, subst, inl, inr, append-nil}
 use Rattle.std.proofs.KnownBytes.{Consumes-nil, Consumes-trans, Appends-nil, Appends-trans}
-use Rattle.std.specs.Io.KnownBytes.{Consumes}
+use Rattle.std.specs.Io.KnownBytes.{Appends, Consumes, IsAtEnd}
 use Rattle.machine.specs.Pieces.{Between, between, Steps, begun, brought, ended, ran}
 use Rattle.machine.proofs.Theorems.Turns.{Goes}
 use Rattle.machine.proofs.Theorems.Whole as M
@@ -14,7 +14,7 @@ use Rattle.bench.specs.Theorems.Lawful.{lawful}
 use Rattle.bench_stream.specs.declared.Failed.{Failed}
 use Rattle.bench_stream.specs.declared.Turn.{Turn}
 use Rattle.bench_stream.specs.Loop.{beginning, first, goes_on, arrived, cut_off, served_by, Did, Wrote, Stepped, Turns, Streamed}
-use Rattle.bench_stream.proofs.Theorems.Turn.{between_of, same_between, going, not_stopped, at_end}
+use Rattle.bench_stream.proofs.Theorems.Turn.{between_of, same_between, contrary, going, not_stopped, at_end}
 
 module _ (trace : Bool) where
   abbrev Led : (l w : List ℕ) → Turn → (kept : List ℕ) → Type 0
@@ -81,10 +81,11 @@ module _ (trace : Bool) where
     pub handed : List ℕ
     pub turns : Turns trace count read handed t k
     pub took : Consumes a b read
+    pub all : t.over ≡ true → IsAtEnd b
     pub wrote : Wrote t.failed v w handed
 
   pub upto_first : (a v : Option (List ℕ)) (t : Turn) (k : List ℕ) → t ≡ first → k ≡ [] → Upto a a v v 0 t k
-  upto_first a v t k e f = rw (e, f) (record { read = []; handed = []; turns = Turns.none; took = Consumes-nil a; wrote = Appends-nil v })
+  upto_first a v t k e f = rw (e, f) (record { read = []; handed = []; turns = Turns.none; took = Consumes-nil a; all = λ z. contrary z; wrote = Appends-nil v })
 
   -- a turn writes only where none has failed
   wrote_more : (f g : Option Failed) (u v w : Option (List ℕ)) (l m : List ℕ) → f ≡ None → Wrote f u v l → Wrote g v w m → Wrote g u w (l ++ m)
@@ -100,13 +101,31 @@ module _ (trace : Bool) where
         handed = h.handed ++ s.text;
         turns = Turns.more h.turns p s.did;
         took = Consumes-trans a b c h.read s.piece h.took s.took;
+        all = λ o. s.all o h.all;
         wrote = wrote_more t.failed u.failed v w x h.handed s.text (going t k p).not_failed h.wrote s.wrote;
       }
 
   pub ended_now : {a b v w : Option (List ℕ)} {n : ℕ} {t : Turn} {k : List ℕ} → Upto a b v w n t k → goes_on t k ≡ false → Streamed trace t a b v w
   ended_now {a} {b} {v} {w} {n} {t} {k} h p =
-      record { ended = record { count = n; read = h.read; handed = h.handed; kept = k; turns = h.turns; end = inl p }; took = h.took; wrote = h.wrote }
+      record { ended = record { count = n; read = h.read; handed = h.handed; kept = k; turns = h.turns; end = inl p }; took = h.took; all = h.all; wrote = h.wrote }
 
   pub used_up : {a b v w : Option (List ℕ)} {n : ℕ} {t : Turn} {k : List ℕ} → Upto a b v w n t k → n ≡ 2 ^ 64 - 1 → Streamed trace t a b v w
   used_up {a} {b} {v} {w} {n} {t} {k} h p =
-      record { ended = record { count = n; read = h.read; handed = h.handed; kept = k; turns = h.turns; end = inr p }; took = h.took; wrote = h.wrote }
+      record { ended = record { count = n; read = h.read; handed = h.handed; kept = k; turns = h.turns; end = inr p }; took = h.took; all = h.all; wrote = h.wrote }
+
+  -- ---- the whole run
+
+  -- where the input was xs, the output has got the text of the whole run on xs, unless refusal 7 was met, a read or a write failed, or a run has more turns than any
+  pub whole_text : {b w : Option (List ℕ)} {t : Turn} (xs ys : List ℕ) (h : Streamed trace t (Some xs) b (Some ys) w) → goes_on t h.ended.kept ≡ false → t.failed ≡ None → t.over ≡ true
+      → w ≡ Some (ys ++ (whole trace beginning xs).text)
+  whole_text {b} {w} {t} xs ys h e f o =
+      got w (subst (λ (x : Option Failed). Wrote x (Some ys) w h.ended.handed) f h.wrote)
+      ∙ ap (λ (l : List ℕ). Some (ys ++ l)) (sym (all_written h.ended.turns e f) ∙ ap (λ (l : List ℕ). (whole trace beginning l).text) (read_all b (h.all o) h.took))
+    where
+      got : (v : Option (List ℕ)) → Appends (Some ys) v h.ended.handed → v ≡ Some (ys ++ h.ended.handed)
+      got None p = absurd p
+      got (Some zs) p = ap (λ (l : List ℕ). Some l) p
+
+      read_all : (c : Option (List ℕ)) → IsAtEnd c → Consumes (Some xs) c h.ended.read → h.ended.read ≡ xs
+      read_all None p q = absurd q
+      read_all (Some zs) p q = sym (q ∙ ap (λ (l : List ℕ). h.ended.read ++ l) p ∙ append-nil h.ended.read)

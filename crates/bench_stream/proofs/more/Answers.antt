@@ -5,7 +5,7 @@ pub returns-in-Ok : goal.returns-in-Ok
 returns-in-Ok g c = λ o v.
     let q = c.requires in
     let e = c.in-Ok.ensures in
-    read c.args.trace c.args.t c.args.kept.now q.going q.few.0 q.few.1 o v e.0 e.1 e.2 e.3
+    read c.args.trace c.args.t c.args.kept.now q.going q.few.0 q.few.1 o v e.0 e.1 e.2 e.3 e.4
 
 pub returns-in-Err : goal.returns-in-Err
 returns-in-Err g c = λ o v.

@@ -57,6 +57,31 @@ pub wants_some : (c : ℕ) → 0 < wants c
 unfolding wants
 wants_some c = size_by_some (opcode c)
 
+-- ---- and the longest command has 32
+
+opcode_size_few : (o : Opcode) → opcode_size o ≤ 32
+unfolding opcode_size
+opcode_size_few Opcode.Start = omega arith
+opcode_size_few Opcode.Accelerations = omega arith
+opcode_size_few Opcode.Temperature = omega arith
+opcode_size_few Opcode.Supply = omega arith
+opcode_size_few Opcode.Due = omega arith
+opcode_size_few Opcode.Select = omega arith
+opcode_size_few Opcode.Rising = omega arith
+opcode_size_few Opcode.Falling = omega arith
+opcode_size_few Opcode.Pins = omega arith
+opcode_size_few Opcode.StoredImage = omega arith
+opcode_size_few Opcode.View = omega arith
+opcode_size_few Opcode.StartStored = omega arith
+
+size_by_few : (r : Result Opcode UnknownByte) → size_by r ≤ 32
+size_by_few (Ok o) = opcode_size_few o
+size_by_few (Err e) = omega arith
+
+pub wants_few : (c : ℕ) → wants c ≤ 32
+unfolding wants
+wants_few c = size_by_few (opcode c)
+
 -- ---- a command whose bytes are there
 
 -- a command that is not bad has its n bytes, and so has one whose n bytes are there

@@ -28,11 +28,11 @@ shorter buf at have n h g f =
     ∙ ap (take (have - (at + n))) (drop-drop n at buf))
 
 -- moved to the front
-pub front : {b c : List ℕ} (at have n : ℕ) → at ≤ have → have ≤ length b → n ≡ have - at → Put b 0 (take n (drop at b)) c n → kept c 0 (have - at) ≡ kept b at have
+pub front : {b c : List ℕ} (at have n : ℕ) → at ≤ have → have ≤ length b → at + n ≡ have → Put b 0 (take (have - at) (drop at b)) c n → kept c 0 n ≡ kept b at have
 front {b} {c} at have n h g e p =
-    let fits : 0 + length (take n (drop at b)) ≤ length b = simp (length-take, length-drop) (omega arith) in
-    let z : have - at - 0 ≡ n = omega arith in
-    rw (z, ← e) (text fits p)
+    let fits : 0 + length (take (have - at) (drop at b)) ≤ length b = simp (length-take, length-drop) (omega arith) in
+    let z : n - 0 ≡ n = omega arith in
+    rw z (text fits p)
 
 -- the bytes l stored behind them, as far as n of them
 pub behind : (buf l : List ℕ) (at have n : ℕ) → at ≤ have → have ≤ length buf → kept (take have buf ++ l) at (have + n) ≡ kept buf at have ++ take n l

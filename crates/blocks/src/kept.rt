@@ -1,14 +1,27 @@
 // The bytes that were read and are yet to be served.
-ghost use Rattle.std.specs.Prelude.{◌≡◌, ◌≤◌, [], length, drop};
-ghost use Rattle.bench_stream.specs.Kept.{Filled};
+ghost use Rattle.std.specs.Prelude.{◌≡◌, ◌+◌, ◌-◌, ◌≤◌, [], length, take, drop};
+ghost use Rattle.machine.specs.Put.{Put};
+ghost use Rattle.blocks.specs.Kept.{Filled};
 
 use std::io;
 use std::io::Read;
 use std::marker::Model;
 
+// Moves the bytes from `at` to `have` to the front, and answers how many they are. std has no `copy_within`.
+fn shift(buf: &mut [u8; 65536], at: usize, have: usize) -> usize
+    requires { (at ≤ have) × (have ≤ 65536) }
+    ensures put { Put buf.old 0 (take (have - at) (drop at buf.old)) buf.new result }
+    ensures size { at + result ≡ have }
+{
+    for i in 0..have - at {
+        buf[i] = buf[at + i];
+    }
+    have - at
+}
+
 // They stand from `at` to `have`.
 #[derive(Drop)]
-pub(crate) struct Kept {
+pub struct Kept {
     buf: [u8; 65536],
     at: usize,
     have: usize,
@@ -25,7 +38,7 @@ impl Model for Kept {
 }
 
 impl Kept {
-    pub(crate) fn new() -> Kept
+    pub fn new() -> Kept
         ensures { result ≡ [] }
     {
         Kept {
@@ -35,37 +48,25 @@ impl Kept {
         }
     }
 
-    pub(crate) fn bytes(&self) -> &[u8]
+    pub fn bytes(&self) -> &[u8]
         ensures { result.now ≡ self.now }
     {
         &self.buf[self.at..self.have]
     }
 
-    // Leaves the first n out.
-    pub(crate) fn skip(&mut self, n: usize)
-        requires { n ≤ length self.old }
+    // Leaves the first n out, all where they are fewer.
+    pub fn skip(&mut self, n: usize)
         ensures { self.new ≡ drop n self.old }
     {
-        self.at += n;
-    }
-
-    // Moves them to the front. std has no `copy_within`.
-    fn shift(&mut self)
-        ensures { self.new ≡ self.old }
-    {
-        let n = self.have - self.at;
-        for i in 0..n {
-            self.buf[i] = self.buf[self.at + i];
-        }
-        self.at = 0;
-        self.have = n;
+        self.at += n.min(self.have - self.at);
     }
 
     // Reads once, behind them.
-    pub(crate) fn fill<R: Read>(&mut self, input: &mut R) -> io::Result<usize>
+    pub fn fill<R: Read>(&mut self, input: &mut R) -> io::Result<usize>
         ensures { Filled (R.remaining input.old) (R.remaining input.new) self.old self.new result }
     {
-        self.shift();
+        self.have = shift(&mut self.buf, self.at, self.have);
+        self.at = 0;
         let got = input.read(&mut self.buf[self.have..])?;
         self.have += got;
         Ok(got)

@@ -1,0 +1,55 @@
+// Input and output by blocks: the bytes that were read and are yet to be used, and a program that answers each item of its input.
+#![tactic(auto)]
+
+ghost use Rattle.std.specs.Prelude.{◌≤◌, ℕ, List, OnOk, ⊤};
+ghost use Rattle.blocks.specs.Answered.{Answered};
+
+use crate::pending::Pending;
+use std::io;
+use std::io::{Read, Write};
+
+mod kept;
+mod pending;
+
+pub use kept::Kept;
+
+// What answers an item of N bytes by M bytes.
+pub trait Answers<const N: usize, const M: usize> {
+    // What an item may be answered by, from one state to another.
+    ghost gives: { Self → List ℕ → List ℕ → Self → Type 0 } = { λ _ _ _ _. ⊤ };
+
+    fn answer(&mut self, item: &[u8; N]) -> [u8; M]
+        ensures { gives self.old item.now result self.new };
+}
+
+// Has each item of the input answered, until it ends; bytes at its end that are no whole item are left out. Items and answers of more
+// than 65536 bytes are an error.
+pub fn drive<const N: usize, const M: usize, A: Answers<N, M>, R: Read, W: Write>(
+    machine: &mut A,
+    input: &mut R,
+    output: &mut W,
+) -> io::Result<()>
+    ensures { OnOk result (Answered A.gives N M machine.old machine.new (R.remaining input.old) (R.remaining input.new) (W.contents output.old) (W.contents output.new)) }
+{
+    if 65536 < N || 65536 < M {
+        return Err(io::Error::from(io::ErrorKind::InvalidInput));
+    }
+    let mut kept = Kept::new();
+    let mut pending = Pending::new();
+    for _ in 0..u64::MAX {
+        match kept.bytes().first_chunk() {
+            Some(item) => {
+                pending.put(output, &machine.answer(item))?;
+                kept.skip(N);
+            }
+            None => {
+                pending.flush(output)?;
+                if kept.fill(input)? == 0 {
+                    return Ok(());
+                }
+            }
+        }
+    }
+    // As many turns as no run has.
+    Err(io::Error::from(io::ErrorKind::Other))
+}
