@@ -24,7 +24,7 @@ const LONGER: u64 = PERIOD + 1;
 // 8 ms.
 const SETTLING: u64 = ((8u128 << 64) / 1000) as u64;
 
-// What remains after either.
+// What remains after either length from a sample to the next.
 const COMMON: Factors = Factors {
     re: -18490024998952,
     im: 24289896676780,

@@ -9,11 +9,23 @@ use Rattle.machine.proofs.Theorems.Put.{text}
 abbrev pub kept : (buf : List ℕ) (at have : ℕ) → List ℕ
 kept buf at have = take (have - at) (drop at buf)
 
-room : (buf : List ℕ) (at n : ℕ) → at + n ≤ length buf → n ≤ length (drop at buf)
+pub room : (buf : List ℕ) (at n : ℕ) → at + n ≤ length buf → n ≤ length (drop at buf)
 room buf at n h = simp length-drop (omega arith)
 
 pub kept_length : (buf : List ℕ) (at have : ℕ) → at ≤ have → have ≤ length buf → length (kept buf at have) ≡ have - at
 kept_length buf at have h g = length-take-le (have - at) (drop at buf) (room buf at (have - at) (omega arith))
+
+pub within : (buf : List ℕ) (at have n : ℕ) → at ≤ have → have ≤ length buf → n ≤ length (kept buf at have) → at + n ≤ have
+within buf at have n h g e = omega (arith, kept_length buf at have h g)
+
+pub less : (i : ℕ) → i ≡ i - 0
+less i = omega arith
+
+-- bytes moved to the front stay there while more is read behind them
+pub stays_front : (b c d : List ℕ) (at have k : ℕ) → Put b 0 (kept b at have) c k → take k d ≡ take k c → take k d ≡ kept b at have
+stays_front b c d at have k p q =
+    let n : 0 + length (kept b at have) ≤ length b = simp (length-take, length-drop) (omega arith) in
+    q ∙ text n p
 
 -- the first n left out
 pub shorter : (buf : List ℕ) (at have n : ℕ) → at ≤ have → have ≤ length buf → n ≤ length (kept buf at have) → kept buf (at + n) have ≡ drop n (kept buf at have)

@@ -83,7 +83,7 @@ impl Opcode {
     }
 }
 
-// The N bytes from `at`.
+// The N bytes from `at`, which is where the list of commands has an operand: slices cut to size would hide the number.
 fn part<const N: usize>(command: &[u8], at: usize) -> Option<[u8; N]>
     ensures { D.Reads result command.now (at + N) (D.part at N command.now) }
 {

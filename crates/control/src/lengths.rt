@@ -31,7 +31,7 @@ pub fn acquisition_cycles(window: u8) -> u16
     }
 }
 
-// The pauses that wake_up_pause chooses from, in milliseconds.
+// The pauses that wake_up_pause chooses from, in milliseconds. Functions and no constants, here and below: their contracts name the paper's lists.
 pub fn pauses() -> [u16; 4]
     ensures { result ≡ Lengths.pauses }
 {

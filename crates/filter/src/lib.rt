@@ -58,7 +58,7 @@ fn sum_of(codes: &[i16]) -> i32
     total
 }
 
-// The sum of the last `window` codes of the ring from `base` on, whose newest stands at `at`: those at and below it,
+// 01 keeps the history flat, so a ring is a place in it. The sum of the last `window` codes of the ring from `base` on, whose newest stands at `at`: those at and below it,
 // and the others from the ring's end.
 fn window_sum(history: &[i16; 192], base: usize, at: usize, window: usize) -> i32
     requires { (base ≤ 128) × (at < 64) × (1 ≤ window) × (window ≤ 64) }

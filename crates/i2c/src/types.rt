@@ -63,7 +63,7 @@ pub struct State {
     pub low: bool,
 }
 
-// What the sensor has to do: nothing, drop the byte being sent, write a register, fetch and send a register's byte, note
+// Nothing is a case: an engine that does nothing still answers a step. What the sensor has to do: nothing, drop the byte being sent, write a register, fetch and send a register's byte, note
 // that a register's byte is being read.
 #[derive(Clone, Copy, Debug, PartialEq, Eq)]
 pub enum Action {

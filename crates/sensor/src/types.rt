@@ -46,7 +46,7 @@ pub enum Mark {
     Single,
 }
 
-// What a view answers: the byte that the register shows, where none is withheld, and the mark of an acceleration that is shown.
+// What a view answers: the byte that the register shows, or none where it is withheld, and the mark of an acceleration that is shown.
 #[derive(Clone, Copy, PartialEq, Eq)]
 pub struct Viewed {
     pub view: Option<u8>,

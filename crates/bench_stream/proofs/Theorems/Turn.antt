@@ -94,3 +94,6 @@ shown d {e} {r} b n size is an fits =
     let same : length e ≡ length d = ap length is ∙ length-sets d 0 b.text in
     let h : 0 + length b.text ≤ length d = omega arith in
     text h (record { bytes = is; next = w ∙ sym (zero-add (length b.text)) })
+
+pub add_one_over : (k l r : ℕ) → l ≡ r + 1 → k + 1 + r ≡ k + l
+add_one_over k l r e = omega arith
