@@ -38,12 +38,16 @@ cut_off s = record { over = false; stop = false; failed = Some Failed.Read; writ
 abbrev pub served_by : Turn → Ran → (taken : Bool) → Turn
 served_by t r taken = record { over = t.over; stop = r.stop; failed = if taken then None else Some Failed.Write; written = r.written; sensor = r.sensor }
 
+-- the bytes that a block leaves of those kept
+abbrev pub left_by : Ran → (kept : List ℕ) → List ℕ
+left_by r k = drop r.read k
+
 -- a turn, from t with the bytes k kept to another with the bytes l: it brings a piece of input, only where no whole command is kept and the input is not over, or it writes the text of a block, only where one is kept or the input is over
 pub data Did (trace : Bool) (t : Turn) (k : List ℕ) : Turn → (l piece text : List ℕ) → Type 0 where
   read : (piece : List ℕ) → t.over ≡ false → is_whole false k ≡ false → Did trace t k (arrived (length piece) t.sensor) (k ++ piece) piece []
   failed : t.over ≡ false → is_whole false k ≡ false → Did trace t k (cut_off t.sensor) k [] []
   served : (r : Ran) (taken : Bool) → Enough t k → r.read ≤ length k → r ≡ answer (length k) (block trace t.over t.sensor k)
-      → (block trace t.over t.sensor k).left ≡ drop r.read k → Did trace t k (served_by t r taken) (drop r.read k) [] (block trace t.over t.sensor k).text
+      → (block trace t.over t.sensor k).left ≡ drop r.read k → Did trace t k (served_by t r taken) (left_by r k) [] (block trace t.over t.sensor k).text
 
 -- the output grew by this text, if no write failed; what a write that failed left there is not known
 abbrev pub Wrote : Option Failed → (old new : Option (List ℕ)) → (text : List ℕ) → Type 0

@@ -13,7 +13,7 @@ use Rattle.bench.specs.Block.{block, answer}
 use Rattle.bench.specs.Theorems.Lawful.{lawful}
 use Rattle.bench_stream.specs.declared.Failed.{Failed}
 use Rattle.bench_stream.specs.declared.Turn.{Turn}
-use Rattle.bench_stream.specs.Loop.{beginning, first, goes_on, arrived, cut_off, served_by, Did, Wrote, Stepped, Turns, Streamed}
+use Rattle.bench_stream.specs.Loop.{beginning, first, goes_on, arrived, cut_off, served_by, left_by, Did, Wrote, Stepped, Turns, Streamed}
 use Rattle.bench_stream.proofs.Theorems.Turn.{between_of, same_between, contrary, going, not_stopped, at_end}
 
 module _ (trace : Bool) where
@@ -47,7 +47,7 @@ module _ (trace : Bool) where
 
     served_steps : (r : Ran) (taken : Bool) → r ≡ answer (length k) (block trace t.over t.sensor k)
         → (block trace t.over t.sensor k).left ≡ drop r.read k
-        → Adds l w [] (block trace t.over t.sensor k).text (between_of (served_by t r taken) (drop r.read k))
+        → Adds l w [] (block trace t.over t.sensor k).text (between_of (served_by t r taken) (left_by r k))
     served_steps r taken is left =
         still (renamed _ _ (same_between (sym (ap (λ (q : Ran). q.sensor) is)) left refl (sym (ap (λ (q : Ran). q.stop) is)))
         (ran (renamed _ _ (same_between refl refl refl going) h)))
