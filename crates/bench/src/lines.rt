@@ -1,4 +1,5 @@
 // A command's line: the command in hexadecimal, the word, the pins, what the command adds, the trace's next due, a line feed.
+// Not by `Display`: it was tried, and nothing in std says that a `write!` succeeds, while a line cannot fail.
 ghost use Rattle.std.specs.Prelude.{◌≡◌, ◌≤◌, [], ◌∷◌, length};
 ghost use Rattle.deadlines.specs.Deadlines.{moment};
 ghost use Rattle.calls.specs.Table as R;

@@ -1,5 +1,5 @@
 // A record: its kind, three bytes, a number of 32 bits and three of 64. An answer: two numbers of 64 bits. All are
-// big-endian.
+// big-endian. The kinds stay the numbers of the protocol (oracle/README.md, "Leaves"): an enum would only name each once more.
 #[derive(Clone, Copy)]
 pub(crate) struct Record {
     pub(crate) kind: u8,

@@ -1,6 +1,6 @@
 // An event: 00..0f a report of the two lines (bits 3 and 2 the clock and data before, 1 and 0 after), 10 and 11 select,
 // 20 and 21 a rise with that data level, 30 a fall, 40 the quiet time ends, 60 and 61 a start in four- or three-wire
-// mode, 80..ff a view of a register.
+// mode, 80..ff a view of a register. They stay the numbers of the protocol (oracle/README.md): an enum would only name each once more.
 use crate::both::{Sensor, start};
 use blocks::Answers;
 use i2c::types::{Action, Levels};
