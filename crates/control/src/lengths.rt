@@ -2,21 +2,13 @@
 ghost use Rattle.std.specs.Prelude.{◌≡◌};
 ghost use Rattle.control.specs.Lengths as Lengths;
 
-use time::Duration;
-
-// The length of a scan of temperature and axes, a third of a millisecond, in units of 2^-64 s.
-const SCAN: u128 = (1 << 64) / 3000;
-
-// The low word of a number of units.
-const LOW: u128 = u64::MAX as u128;
+use time::{Duration, SCAN};
 
 // From the start of acquisition to its first scan: the scan is part of the stated length.
 pub fn acquisition_delay(ready: Duration) -> Duration
     ensures { result ≡ Lengths.acquisition_delay ready }
 {
-    let stated = (ready.0 as u128) << 64 | ready.1 as u128;
-    let left = stated.saturating_sub(SCAN);
-    Duration((left >> 64) as u64, (left & LOW) as u64)
+    ready.saturating_sub(Duration(0, SCAN))
 }
 
 // The cycles from a wake to valid samples, by the filter's window.

@@ -37,7 +37,7 @@ fn mixed(shift: u32, factor: u32, key: u32) -> u32
 fn threshold(cell: u32, bit: u8) -> u16
     ensures { result ≡ C.threshold cell bit }
 {
-    let key = cell ^ 0x9e37_79b9u32.wrapping_mul(bit as u32 + 1);
+    let key = cell ^ 0x9e37_79b9u32.wrapping_mul(u32::from(bit) + 1);
     let key = mixed(15, 0x846c_a68b, mixed(16, 0x7feb_352d, key));
     ((key ^ (key >> 16)) & 0xffff).max(1) as u16
 }
@@ -47,8 +47,8 @@ fn threshold(cell: u32, bit: u8) -> u16
 fn crossed_bit(cell: u32, elapsed: u64, duration: u64, bit: u8) -> bool
     ensures { result ≡ C.has_crossed cell elapsed duration bit }
 {
-    let at = (duration as u128 * threshold(cell, bit) as u128) >> 16;
-    at <= elapsed as u128
+    let at = (u128::from(duration) * u128::from(threshold(cell, bit))) >> 16;
+    at <= u128::from(elapsed)
 }
 
 // The bits that have crossed.
@@ -58,7 +58,7 @@ fn crossed(cell: u32, elapsed: u64, duration: u64) -> u8
 {
     let mut mask = 0;
     for bit in 0..8 {
-        mask |= (crossed_bit(cell, elapsed, duration, bit) as u8) << bit;
+        mask |= u8::from(crossed_bit(cell, elapsed, duration, bit)) << bit;
     }
     mask
 }

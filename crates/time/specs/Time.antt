@@ -39,6 +39,10 @@ precedes t u = nat_lt (ticks t) (ticks u)
 abbrev pub same : Time → Time → Bool
 same t u = ticks t == ticks u
 
+-- a length without another; none where that is longer (the Rust's `raw().saturating_sub`)
+abbrev pub without : Duration → Duration → Duration
+without d other = duration (lasts d - lasts other)
+
 -- ms milliseconds, rounded down to units (`from_millis`)
 abbrev pub from_millis : (ms : ℕ) → Duration
 from_millis ms = duration (ms * 2 ^ 64 / 1000)

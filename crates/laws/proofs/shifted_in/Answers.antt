@@ -9,4 +9,4 @@ joined x true = let e : x * 2 % 256 ≡ x % 128 * 2 = omega arith in rw e (or_sh
 joined x false = let e : x * 2 % 256 ≡ x % 128 * 2 = omega arith in rw e (or_shifted (x % 128) 1 0 (omega arith))
 
 pub returns : goal.returns
-returns c = joined c.args.byte c.args.bit
+returns c = rw c.from.ensures (joined c.args.byte c.args.bit)

@@ -28,4 +28,4 @@ returns g c =
     let p = part (2 ^ 64) N (2 ^ 64 / N) (2 ^ 64 % N) (n % N) h (omega (arith, mul_comm N (2 ^ 64 / N))) in
     let w = whole (2 ^ 64) N (n / N) (n % N) n h (omega (arith, mul_comm N (n / N))) in
     let l : n % N * 2 ^ 64 / N < 2 ^ 64 = (div-lt_iff_lt-mul h).1 (omega (arith, mod-lt n h, mul_comm N (2 ^ 64))) in
-    duration_at (n * 2 ^ 64 / N) (rw p at l) (omega arith) (lt_of_le_of_lt (div-le_self n N) c.ranges.n.fits)
+    rw c.from-parts.ensures (duration_at (n * 2 ^ 64 / N) (rw p at l) (omega arith) (lt_of_le_of_lt (div-le_self n N) c.ranges.n.fits))
