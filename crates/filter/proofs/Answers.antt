@@ -8,11 +8,12 @@ use native.Mathlib.Omega.{arith}
 use lib.Dec.{ltb, eqb, lit≤}
 use borrow.Author.Tests.{ltb-true, ltb-false, eq-eqb, eqb-true, eqb-false}
 use lib.IntN.{ℤ, pos}
-use lib.ListN.{length, get_or, take, replicate}
+use lib.ListN.{length, take, replicate}
 use lib.Seq.{take-take, take-append-le}
+use Rattle.filter.specs.declared.Ring.{Ring}
 use Rattle.filter.specs.declared.Filter.{Filter}
 use Rattle.filter.specs.Mean.{mean}
-use Rattle.filter.specs.Filter.{shift_of, window, count_with, pushed, last_codes, full, answered}
+use Rattle.filter.specs.Filter.{shift_of, window, empty, ring_of, count_with, pushed, last_codes, full, answered}
 use Rattle.filter.specs.Operations.{Operation, push, select, after, codes_on, bandwidth_of, answer, is_mean}
 use Rattle.filter.proofs.Codes.{Sized, sized_made, sized_pushed, push_codes, push_count, push_keeps_codes, push_keeps_count, new_codes, same_everywhere, answered_code, answered_mean, not_full, is_full}
 use Rattle.filter.proofs.Sums.{window_le}
@@ -21,7 +22,7 @@ pub sized : (bandwidth : ℕ) (earlier : List Operation) → Sized (after bandwi
 unfolding after
 sized bandwidth [] = sized_made bandwidth
 sized bandwidth (push axis code ∷ earlier) = sized_pushed (after bandwidth earlier) axis code (sized bandwidth earlier)
-sized bandwidth (select b ∷ earlier) = let s = sized bandwidth earlier in record { codes = s.codes; places = s.places; counts = s.counts }
+sized bandwidth (select b ∷ earlier) = let s = sized bandwidth earlier in record { codes = s.codes; rings = s.rings }
 
 -- the shift is that of the bandwidth last selected
 pub shift_is : (bandwidth : ℕ) (earlier : List Operation) → (after bandwidth earlier).shift ≡ shift_of (bandwidth_of bandwidth earlier)
@@ -33,7 +34,7 @@ shift_is bandwidth (select b ∷ earlier) = refl
 -- ---- the last 64 codes are the first of the codes pushed, and then zeros; the count is theirs, 64 at most
 pub record Holds (f : Filter) (axis : ℕ) (codes : List ℤ) : Type 0 where
   pub last : last_codes f axis ≡ take 64 (codes ++ replicate 64 (pos 0))
-  pub count : get_or f.count (axis % 3) 0 ≡ min (length codes) 64
+  pub count : (ring_of f axis).count ≡ min (length codes) 64
 
 holds_push : (f : Filter) (a axis : ℕ) (code : ℤ) (codes : List ℤ) → Sized f → Holds f axis codes
     → (t : Bool) → eqb (a % 3) (axis % 3) ≡ t → Holds (pushed f a code) axis (cond t (code ∷ codes) codes)
@@ -41,7 +42,7 @@ holds_push f a axis code codes s h true e =
     let q : a % 3 ≡ axis % 3 = eqb-true (a % 3) (axis % 3) e in
     let all = codes ++ replicate 64 (pos 0) in
     let last : last_codes (pushed f a code) axis ≡ take 64 (code ∷ last_codes f axis) = rw q at (push_codes f a code s) in
-    let count : get_or (pushed f a code).count (axis % 3) 0 ≡ min (get_or f.count (axis % 3) 0 + 1) 64 = rw q at (push_count f a code s) in
+    let count : (ring_of (pushed f a code) axis).count ≡ min ((ring_of f axis).count + 1) 64 = rw q at (push_count f a code s) in
     record {
       last = last ∙ rw h.last (ap (λ (l : List ℤ). code ∷ l) (take-take 63 64 all (lit≤ tt)));
       count = count ∙ rw h.count (omega arith);
@@ -55,7 +56,7 @@ holds_push f a axis code codes s h false e =
 
 pub holds : (bandwidth axis : ℕ) (earlier : List Operation) → Holds (after bandwidth earlier) axis (codes_on axis earlier)
 unfolding after codes_on
-holds bandwidth axis [] = record { last = new_codes bandwidth axis; count = same_everywhere 0 3 (axis % 3) }
+holds bandwidth axis [] = record { last = new_codes bandwidth axis; count = ap (λ (r : Ring). r.count) (same_everywhere empty 3 (axis % 3)) }
 holds bandwidth axis (push a code ∷ earlier) =
     holds_push (after bandwidth earlier) a axis code (codes_on axis earlier) (sized bandwidth earlier) (holds bandwidth axis earlier) (eqb (a % 3) (axis % 3)) refl
 holds bandwidth axis (select b ∷ earlier) = let h = holds bandwidth axis earlier in record { last = h.last; count = h.count }

@@ -1,5 +1,5 @@
 -- What a push, a selection and a new filter do to each axis's list of last codes.
-use mathlib.Core.Path.{◌≡◌, refl, ◌∙◌}
+use mathlib.Core.Path.{◌≡◌, refl, ap, ◌∙◌}
 use mathlib.Core.Bool.{true, false}
 use mathlib.Core.List.{List, ◌∷◌}
 use Prim.Native.Nat.{ℕ, zero, suc, ◌+◌, ◌-◌, ◌*◌, ◌%◌, ◌≤◌, ◌<◌}
@@ -8,9 +8,10 @@ use lib.IntN.{ℤ, pos}
 use lib.ListN.{length, get_or, take, set, replicate, length-set}
 use lib.Seq.{get_or-set_same, get_or-set_other}
 use borrow.Author.Tests.{lt-ltb, le-ltb}
+use Rattle.filter.specs.declared.Ring.{Ring}
 use Rattle.filter.specs.declared.Filter.{Filter}
 use Rattle.filter.specs.Mean.{tabulate, ring, mean}
-use Rattle.filter.specs.Filter.{window, made, selected, place, count_with, pushed, last_codes, full, answered}
+use Rattle.filter.specs.Filter.{window, empty, made, selected, ring_of, grown, place, count_with, pushed, last_codes, full, answered}
 use Rattle.filter.proofs.Sums.{take_tabulate}
 
 -- ---- rings
@@ -58,22 +59,25 @@ module _ (h : List ℤ) (a n : ℕ) (code : ℤ) (n<64 : n < 64) where
 -- ---- a filter's arrays have the lengths that its declaration says
 pub record Sized (f : Filter) : Type 0 where
   pub codes : length f.history ≡ 192
-  pub places : length f.next ≡ 3
-  pub counts : length f.count ≡ 3
+  pub rings : length f.rings ≡ 3
 
 pub sized_made : (bandwidth : ℕ) → Sized (made bandwidth)
-sized_made bandwidth = record { codes = refl; places = refl; counts = refl }
+sized_made bandwidth = record { codes = refl; rings = refl }
 
 pub sized_pushed : (f : Filter) (axis : ℕ) (code : ℤ) → Sized f → Sized (pushed f axis code)
 unfolding pushed
-sized_pushed f axis code s = record { codes = rw length-set s.codes; places = rw length-set s.places; counts = rw length-set s.counts }
+sized_pushed f axis code s = record { codes = rw length-set s.codes; rings = rw length-set s.rings }
 
 -- ---- a push
 module _ (f : Filter) (axis : ℕ) (code : ℤ) where
-  -- the newest code then stands where it was put
-  pub newest_place : length f.next ≡ 3 → (place (pushed f axis code) axis + 63) % 64 ≡ place f axis
+  -- the axis's ring has then grown
+  pub ring_grown : length f.rings ≡ 3 → ring_of (pushed f axis code) axis ≡ grown (ring_of f axis)
   unfolding pushed
-  newest_place three = rw (get_or-set_same f.next (axis % 3) ((place f axis + 1) % 64) 0 (omega (arith, three))) (omega arith)
+  ring_grown three = get_or-set_same f.rings (axis % 3) (grown (ring_of f axis)) empty (omega (arith, three))
+
+  -- the newest code then stands where it was put
+  pub newest_place : length f.rings ≡ 3 → (place (pushed f axis code) axis + 63) % 64 ≡ place f axis
+  newest_place three = rw (ring_grown three) (omega arith)
 
   -- the answer: the code itself while there are fewer than the window, and else the mean of the window
   pub answered_code : count_with f axis < window f → answered f axis code ≡ code
@@ -94,7 +98,7 @@ module _ (f : Filter) (axis : ℕ) (code : ℤ) where
   is_full p = rw (le-ltb (count_with f axis) (window f) p)
 
   -- the mean as the code makes it
-  pub answered_ring : length f.next ≡ 3
+  pub answered_ring : length f.rings ≡ 3
       → window f ≤ count_with f axis
       → answered f axis code
       ≡ mean (window f) (ring (set f.history (axis % 3 * 64 + place f axis) code) (axis % 3 * 64) (place f axis))
@@ -105,24 +109,23 @@ module _ (f : Filter) (axis : ℕ) (code : ℤ) (s : Sized f) where
   -- the code is put in front, and the oldest dropped
   pub push_codes : last_codes (pushed f axis code) axis ≡ take 64 (code ∷ last_codes f axis)
   unfolding pushed
-  push_codes = rw (newest_place f axis code s.places) (ring_same f.history (axis % 3) (place f axis) code (omega arith) (omega (arith, s.codes)))
+  push_codes = rw (newest_place f axis code s.rings) (ring_same f.history (axis % 3) (place f axis) code (omega arith) (omega (arith, s.codes)))
 
   -- one more is counted, 64 at most
-  pub push_count : get_or (pushed f axis code).count (axis % 3) 0 ≡ count_with f axis
-  unfolding pushed
-  push_count = get_or-set_same f.count (axis % 3) (count_with f axis) 0 (omega (arith, s.counts))
+  pub push_count : (ring_of (pushed f axis code) axis).count ≡ count_with f axis
+  push_count = ap (λ (r : Ring). r.count) (ring_grown f axis code s.rings)
 
   -- another axis keeps its codes and its count
   module _ (other : ℕ) (apart : other % 3 ≡ axis % 3 → ⊥) where
     pub push_keeps_codes : last_codes (pushed f axis code) other ≡ last_codes f other
     unfolding pushed
     push_keeps_codes =
-        rw (get_or-set_other f.next (axis % 3) (other % 3) ((place f axis + 1) % 64) 0 apart)
+        rw (get_or-set_other f.rings (axis % 3) (other % 3) (grown (ring_of f axis)) empty apart)
         (ring_other f.history (axis % 3) (place f axis) code (omega arith) (other % 3) ((place f other + 63) % 64) apart)
 
-    pub push_keeps_count : get_or (pushed f axis code).count (other % 3) 0 ≡ get_or f.count (other % 3) 0
+    pub push_keeps_count : (ring_of (pushed f axis code) other).count ≡ (ring_of f other).count
     unfolding pushed
-    push_keeps_count = get_or-set_other f.count (axis % 3) (other % 3) (count_with f axis) 0 apart
+    push_keeps_count = ap (λ (r : Ring). r.count) (get_or-set_other f.rings (axis % 3) (other % 3) (grown (ring_of f axis)) empty apart)
 
 -- ---- a selection keeps every list, and a new filter's lists are zeros
 pub select_keeps_codes : (f : Filter) (bandwidth axis : ℕ) → last_codes (selected f bandwidth) axis ≡ last_codes f axis
@@ -140,5 +143,5 @@ all_zeros = refl
 pub new_codes : (bandwidth axis : ℕ) → last_codes (made bandwidth) axis ≡ replicate 64 (pos 0)
 unfolding ring
 new_codes bandwidth axis =
-    let place : ℕ → ℕ = λ k. axis % 3 * 64 + ((get_or (replicate 3 0) (axis % 3) 0 % 64 + 63) % 64 + 64 - k) % 64 in
+    let place : ℕ → ℕ = λ k. axis % 3 * 64 + (((get_or (replicate 3 empty) (axis % 3) empty).next % 64 + 63) % 64 + 64 - k) % 64 in
     tabulate_ext 64 (λ k. get_or (replicate 192 (pos 0)) (place k) (pos 0)) (λ k. pos 0) (λ k p. same_everywhere (pos 0) 192 (place k)) ∙ all_zeros

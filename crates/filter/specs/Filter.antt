@@ -1,5 +1,6 @@
 -- The filter of three axes on the declared record, as `new`, `window`, `select` and `push` leave it.
 use Rattle.std.specs.Prelude.{ℕ, ◌+◌, ◌-◌, ◌*◌, ◌%◌, ◌^◌, min, Bool, not, List, ltb, get_or, set, replicate, ℤ, pos, if◌then◌else◌}
+use Rattle.filter.specs.declared.Ring.{Ring}
 use Rattle.filter.specs.declared.Filter.{Filter}
 use Rattle.filter.specs.Mean.{ring, mean}
 
@@ -14,12 +15,19 @@ window_of shift = 2 ^ min shift 6
 abbrev pub window : Filter → ℕ
 window f = window_of f.shift
 
+-- the histories of the three axes, one after the other (01 keeps them flat)
+abbrev pub histories : Filter → List ℤ
+histories f = f.history
+
+-- the ring of an axis that holds no code
+abbrev pub empty : Ring
+empty = record { next = 0; count = 0 }
+
 -- a new filter: three histories of 64 zeros, no code counted (01)
 abbrev pub made : (bandwidth : ℕ) → Filter
 made bandwidth = record {
   history = replicate 192 (pos 0);
-  next = replicate 3 0;
-  count = replicate 3 0;
+  rings = replicate 3 empty;
   shift = shift_of bandwidth;
 }
 
@@ -27,25 +35,31 @@ made bandwidth = record {
 abbrev pub selected : Filter → (bandwidth : ℕ) → Filter
 selected f bandwidth = record {
   history = f.history;
-  next = f.next;
-  count = f.count;
+  rings = f.rings;
   shift = shift_of bandwidth;
 }
 
--- the place in an axis's ring of 64 that is written next; the axis counts modulo 3, the place modulo 64
-abbrev pub place : Filter → (axis : ℕ) → ℕ
-place f axis = get_or f.next (axis % 3) 0 % 64
+-- the ring of an axis, which counts modulo 3
+abbrev pub ring_of : Filter → (axis : ℕ) → Ring
+ring_of f axis = get_or f.rings (axis % 3) empty
 
--- how many codes an axis holds with one more: at most 64 (the Rust's rule)
+-- a ring with one code more: the place after it is next, and at most 64 are counted (the Rust's rule)
+abbrev pub grown : Ring → Ring
+grown r = record { next = (r.next % 64 + 1) % 64; count = min (r.count + 1) 64 }
+
+-- the place in an axis's ring of 64 that is written next, modulo 64
+abbrev pub place : Filter → (axis : ℕ) → ℕ
+place f axis = (ring_of f axis).next % 64
+
+-- how many codes an axis holds with one more
 abbrev pub count_with : Filter → (axis : ℕ) → ℕ
-count_with f axis = min (get_or f.count (axis % 3) 0 + 1) 64
+count_with f axis = (grown (ring_of f axis)).count
 
 -- the filter after a code is pushed on an axis (the Rust's `push`): written at the next place, which moves on, and counted
 unfoldable pub pushed : Filter → (axis : ℕ) (code : ℤ) → Filter
 pushed f axis code = record {
   history = set f.history (axis % 3 * 64 + place f axis) code;
-  next = set f.next (axis % 3) ((place f axis + 1) % 64);
-  count = set f.count (axis % 3) (count_with f axis);
+  rings = set f.rings (axis % 3) (grown (ring_of f axis));
   shift = f.shift;
 }
 

@@ -4,15 +4,20 @@
 ghost use Rattle.std.specs.Prelude.{◌≡◌, ◌+◌, ◌-◌, ◌*◌, ◌^◌, ◌<◌, ◌≤◌, min, take, length};
 ghost use Rattle.std.specs.Int.Signed.{mag};
 ghost use Rattle.filter.specs.Mean.{ring, sumZ, mean};
-ghost use Rattle.filter.specs.Filter.{shift_of, window_of, window, made, selected, pushed, full, answered};
+ghost use Rattle.filter.specs.Filter.{shift_of, window_of, window, histories, made, selected, grown, pushed, full, answered};
 
-// `history` holds the last 64 codes of each axis as a ring, axis * 64 and its place; `next` is the place that an axis
-// writes next and `count` how many codes it holds. The window is 2^shift.
+// The ring of an axis: the place that is written next, and how many codes it holds.
+#[derive(Clone, Copy)]
+struct Ring {
+    next: u8,
+    count: u8,
+}
+
+// `history` holds the last 64 codes of each axis, axis * 64 and the place in its ring. The window is 2^shift.
 #[derive(Clone, Copy)]
 pub struct Filter {
     history: [i16; 192],
-    next: [u8; 3],
-    count: [u8; 3],
+    rings: [Ring; 3],
     shift: u8,
 }
 
@@ -38,11 +43,16 @@ fn window_of(shift: u8) -> u8
     1u8 << shift.min(6)
 }
 
-// One code more, 64 at most.
-fn counted(count: u8) -> u8
-    ensures { result ≡ min (count + 1) 64 }
-{
-    count.saturating_add(1).min(64)
+impl Ring {
+    // One code more: the place after it is next, and 64 are counted at most.
+    fn grown(self) -> Ring
+        ensures { result ≡ grown self }
+    {
+        Ring {
+            next: (self.next % 64 + 1) % 64,
+            count: self.count.saturating_add(1).min(64),
+        }
+    }
 }
 
 // The sum of some codes.
@@ -53,7 +63,7 @@ fn sum_of(codes: &[i16]) -> i32
 {
     let mut total = 0;
     for code in codes {
-        total += *code as i32;
+        total += i32::from(*code);
     }
     total
 }
@@ -85,8 +95,7 @@ impl Filter {
     {
         Filter {
             history: [0; 192],
-            next: [0; 3],
-            count: [0; 3],
+            rings: [Ring { next: 0, count: 0 }; 3],
             shift: shift_of(bandwidth),
         }
     }
@@ -108,7 +117,7 @@ impl Filter {
 
     // The codes of the three axes.
     pub fn history(self) -> [i16; 192]
-        ensures { result ≡ self.history }
+        ensures { result ≡ histories self }
     {
         self.history
     }
@@ -133,13 +142,12 @@ impl Filter {
         ensures code_value { result.0 ≡ answered self.old axis code }
         ensures full_value { result.1 ≡ full self.old axis }
     {
-        let a = (axis % 3) as usize;
-        let place = (self.next[a] % 64) as usize;
-        let count = counted(self.count[a]);
+        let a = usize::from(axis % 3);
+        let place = usize::from(self.rings[a].next % 64);
+        let ring = self.rings[a].grown();
         self.history[a * 64 + place] = code;
-        self.next[a] = ((place + 1) % 64) as u8;
-        self.count[a] = count;
-        if count < window_of(self.shift) {
+        self.rings[a] = ring;
+        if ring.count < window_of(self.shift) {
             return (code, false);
         }
         let mean = mean_of(&self.history, a * 64, place, self.shift.min(6));

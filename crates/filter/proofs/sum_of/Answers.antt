@@ -8,4 +8,4 @@ pub loop-code-preserved : goal.loop-code-preserved
 loop-code-preserved c =
     let xs = c.args.codes.now in let n = c.loop-code.code-index in
     let f : SFits w16 (get_or xs n (pos 0)) = search rules in
-    turn xs n (to_z w32 c.loop-code.total-bits) (of_fits f) c.loop-code.invariant.0 c.loop-code.invariant.1 (omega arith)
+    rw c.from-total.ensures (turn xs n (to_z w32 c.loop-code.total-bits) (of_fits f) c.loop-code.invariant.0 c.loop-code.invariant.1 (omega arith))
