@@ -68,10 +68,13 @@ held_high s axis = option_map_or (λ pair. get_or pair 1 0) (shadow s axis) 0
 unfoldable pub pair : Reads → (axis low high : ℕ) → List ℕ
 pair s axis low high = unwrap_or (shadow s axis) (low ∷ high ∷ [])
 
--- a low byte is the first of the pair, which becomes `tx_pair` (the Rust's rule)
+-- a low byte is the first of its pair, which becomes `tx_pair` (the Rust's rule)
+abbrev pub prepared_from : Reads → (pair : List ℕ) → Prepared
+prepared_from s pair = record { reads = record s { tx_pair = Some pair; tx_shadow = true }; byte = get_or pair 0 0 }
+
+-- the pair is the axis's
 abbrev pub prepared_low : Reads → (axis low high : ℕ) → Prepared
-prepared_low s axis low high =
-    record { reads = record s { tx_pair = Some (pair s axis low high); tx_shadow = true }; byte = get_or (pair s axis low high) 0 0 }
+prepared_low s axis low high = prepared_from s (pair s axis low high)
 
 -- 01, "Wrong turns": a high byte is that of the held pair; before its low byte it is the last acknowledged one
 unfoldable pub high_byte : Reads → (axis : ℕ) → ℕ

@@ -29,7 +29,7 @@ pub fn is_acceleration(address: u8) -> bool
     (0x02..=0x07).contains(&address)
 }
 
-// The axis of an acceleration's address.
+// The axis of an acceleration's address. A number, since any address has one: a type of three values would ask more of callers.
 pub fn axis_of(address: u8) -> u8
     ensures { result ≡ R.axis_of address }
 {
@@ -95,21 +95,10 @@ impl Reads {
         }
     }
 
-    // The held pair of an axis, else the bytes of its registers.
-    #[tactic(auto, unfolding(crate::specs::Reads::pair))]
-    fn pair(self, axis: u8, low: u8, high: u8) -> [u8; 2]
-        requires { axis < 3 }
-        ensures { result ≡ R.pair self axis low high }
-    {
-        self.shadows[usize::from(axis)].unwrap_or([low, high])
-    }
-
     // A low byte is sent from its pair.
-    fn prepare_low(self, axis: u8, low: u8, high: u8) -> Prepared
-        requires { axis < 3 }
-        ensures { result ≡ R.prepared_low self axis low high }
+    fn prepare_low(self, pair: [u8; 2]) -> Prepared
+        ensures { result ≡ R.prepared_from self pair }
     {
-        let pair = self.pair(axis, low, high);
         let reads = Reads {
             tx_pair: Some(pair),
             tx_shadow: true,
@@ -118,19 +107,6 @@ impl Reads {
         Prepared {
             reads,
             byte: pair[0],
-        }
-    }
-
-    // The high byte of the held pair, else the last one of the axis.
-    #[tactic(auto, unfolding(crate::specs::Reads::high_byte))]
-    fn high_byte(self, axis: u8) -> u8
-        requires { axis < 3 }
-        ensures { result ≡ R.high_byte self axis }
-    {
-        let i = usize::from(axis);
-        match self.shadows[i] {
-            Some(pair) => pair[1],
-            None => self.last_msb[i],
         }
     }
 
@@ -145,8 +121,9 @@ impl Reads {
         Prepared { reads, byte }
     }
 
-    // The byte to send for a register that shows `viewed`; `low` and `high` are the registers of the address's axis.
-    #[tactic(auto, unfolding(crate::specs::Reads::prepared, crate::specs::Reads::high_byte), using(crate::specs::Theorems::Pairs::axis_lt))]
+    // The byte to send for a register that shows `viewed`; `low` and `high` are the registers of the address's axis. A pair that is
+    // held for the axis comes before them, and a high byte without one is the last one of the axis.
+    #[tactic(auto, unfolding(crate::specs::Reads::prepared, crate::specs::Reads::pair, crate::specs::Reads::high_byte), using(crate::specs::Theorems::Pairs::axis_lt))]
     pub fn prepare(self, address: u8, viewed: u8, low: u8, high: u8, shadowing: bool) -> Prepared
         ensures { result ≡ R.prepared self address viewed low high shadowing }
     {
@@ -157,12 +134,15 @@ impl Reads {
                 byte: viewed,
             };
         }
-        let axis = axis_of(address);
+        let axis = usize::from(axis_of(address));
+        let held = self.shadows[axis];
         if address % 2 == 0 {
-            reads.prepare_low(axis, low, high)
-        } else {
-            reads.prepare_high(reads.high_byte(axis))
+            return reads.prepare_low(held.unwrap_or([low, high]));
         }
+        reads.prepare_high(match held {
+            Some(pair) => pair[1],
+            None => self.last_msb[axis],
+        })
     }
 
     // The pair that was sent from is held for its axis.
