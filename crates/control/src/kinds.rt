@@ -35,7 +35,8 @@ fn written_register(address: u8, value: u8) -> WriteKind
     }
 }
 
-// What a write does; `running`: a stored write runs.
+// What a write does; `running`: a stored write runs. Address, value and gate are the row of `ignores` and `begins` too: each caller
+// has the three apart, and a record of them would be made only to be taken apart.
 #[tactic(auto, unfolding(crate::specs::Kinds::kind_of_write))]
 pub fn kind_of_write(address: u8, value: u8, gate: Gate, running: bool) -> WriteKind
     ensures { result ≡ Kinds.kind_of_write address value gate running }

@@ -122,7 +122,8 @@ impl Filter {
         self.history
     }
 
-    // A code comes on an axis: the filter after it, and what it answers.
+    // A code comes on an axis: the filter after it, and what it answers. The axis is a number, taken modulo 3: a type of three values would
+    // ask more of callers.
     pub fn push(mut self, axis: u8, code: i16) -> Pushed
         ensures filter_value { result.filter ≡ pushed self axis code }
         ensures code_value { result.code ≡ answered self axis code }

@@ -86,7 +86,7 @@ impl Interrupts {
         cleared.configure(registers)
     }
 
-    // A code on an axis, whose number is taken modulo 3.
+    // A code on an axis, whose number is taken modulo 3: a type of three values would ask more of callers.
     #[tactic(auto, unfolding(crate::specs::State::axis))]
     pub fn axis(self, number: u8, code: i16, registers: [u8; 62]) -> Interrupts
         ensures { result ≡ axis self number code registers }

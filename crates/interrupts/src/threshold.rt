@@ -48,7 +48,8 @@ impl<const HIGH: bool> Threshold<HIGH> {
         if HIGH { t <= m } else { m <= t }
     }
 
-    // A code clears its axis.
+    // A code clears its axis. The threshold and the hysteresis come from two registers and meet only here, so a record of them would be
+    // made in `Interrupts::axis` only to be taken apart.
     #[tactic(auto, unfolding(crate::specs::Criteria::clears))]
     fn clears(code: i16, threshold: u8, hysteresis: u8) -> bool
         ensures { result ≡ clears HIGH code threshold hysteresis }

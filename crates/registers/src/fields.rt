@@ -96,6 +96,8 @@ fn field<const SHIFT: u8, const WIDTH: u8>(byte: u8) -> u8
     (byte >> SHIFT) & ((1 << WIDTH) - 1)
 }
 
+// The fields of more than one bit, by the data sheet's names: each says its place in the register, and no more.
+
 pub fn counter_hg(criteria: u8) -> u8
     ensures { result ≡ counter_HG criteria }
 {
