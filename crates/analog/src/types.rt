@@ -1,6 +1,14 @@
 // The stage's record, and the numbers of a step. Names are the Rust's (devices/bma150/analog.rs).
 use time::Time;
 
+// An acceleration in millionths of g (`Acceleration` of signals.rs).
+#[derive(Clone, Copy, Debug, PartialEq, Eq)]
+pub struct Acceleration {
+    pub x: i32,
+    pub y: i32,
+    pub z: i32,
+}
+
 // The stage of one axis: its moment, and the lagged acceleration and its rate of change in 2^-24 of a millionth of g.
 #[derive(Clone, Copy, Debug, PartialEq, Eq)]
 pub struct Axis {

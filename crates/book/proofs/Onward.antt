@@ -37,7 +37,7 @@ Stands s = Upto s.last s.sensor.sampling.analog
 
 dated : (now : Time) (t : Timed) → (timed_facts now t).time ≡ Some now
 unfolding timed_facts
-dated now (Timed.Accelerations x y z) = refl
+dated now (Timed.Accelerations input) = refl
 dated now (Timed.Supply rail) = refl
 dated now Timed.Due = refl
 dated now (Timed.Rising mosi) = refl

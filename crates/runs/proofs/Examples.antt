@@ -82,7 +82,7 @@ limit = record { 0 = 2 ^ 32 - 1; 1 = 2 ^ 64 - 1 }
 -- every kind of call at the edges of its arguments, refused and accepted; then 0 mV
 abbrev extremes : List Call
 extremes =
-    Call.At extreme (Timed.Accelerations (negsuc (2 ^ 31 - 1)) (pos (2 ^ 31 - 1)) (pos 0))
+    Call.At extreme (Timed.Accelerations (record { x = negsuc (2 ^ 31 - 1); y = pos (2 ^ 31 - 1); z = pos 0 }))
     ∷ Call.At extreme (Timed.Supply 65535)
     ∷ Call.At extreme Timed.Due
     ∷ Call.At extreme (Timed.Rising true)
@@ -99,7 +99,7 @@ extremes =
     ∷ Call.View 255
     ∷ Call.View 0
     ∷ supply (time 0) 0
-    ∷ Call.At limit (Timed.Accelerations (negsuc (1000000000 - 1)) (pos 1000000000) (pos 0))
+    ∷ Call.At limit (Timed.Accelerations (record { x = negsuc (1000000000 - 1); y = pos 1000000000; z = pos 0 }))
     ∷ Call.At limit Timed.Due
     ∷ Call.At limit (Timed.Rising true)
     ∷ Call.At limit Timed.Falling

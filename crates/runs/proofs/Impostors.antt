@@ -164,7 +164,7 @@ image_of_the_start = record {
 
 -- a write that completes stores nothing
 unfoldable pub at_due : Bma150 → Bma150 → Call → Bma150
-at_due s t (Call.At now (Timed.Accelerations x y z)) = t
+at_due s t (Call.At now (Timed.Accelerations input)) = t
 at_due s t (Call.At now (Timed.Supply rail)) = t
 at_due s t (Call.At now Timed.Due) = unstored s t
 at_due s t (Call.At now (Timed.Rising mosi)) = t
@@ -180,7 +180,7 @@ completes_nothing = leaving (λ s c. at_due s (step s c) c)
 
 -- what a supply call leaves is altered so
 unfoldable pub at_supply : (Bma150 → Bma150 → Bma150) → Bma150 → Bma150 → Call → Bma150
-at_supply f s t (Call.At now (Timed.Accelerations x y z)) = t
+at_supply f s t (Call.At now (Timed.Accelerations input)) = t
 at_supply f s t (Call.At now (Timed.Supply rail)) = f s t
 at_supply f s t (Call.At now Timed.Due) = t
 at_supply f s t (Call.At now (Timed.Rising mosi)) = t
@@ -268,7 +268,7 @@ abbrev off : List Call
 off = supply (time 0) 0 ∷ []
 
 abbrev accelerated : List Call
-accelerated = Call.At too_late (Timed.Accelerations (pos 1000000000) (pos 0) (pos 0)) ∷ off
+accelerated = Call.At too_late (Timed.Accelerations (record { x = pos 1000000000; y = pos 0; z = pos 0 })) ∷ off
 
 abbrev pointed : List Call
 pointed = start (time 0) (byte (time 0) 0x70 (byte (time 0) 0x0d (released (time 0) off)))

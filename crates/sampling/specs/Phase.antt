@@ -62,7 +62,7 @@ phase_of ordinal = (ordinal % 4 + 3) % 4
 
 -- an axis of the acceleration last set
 unfoldable pub axis_input : (input : Input) (axis : ℕ) → ℤ
-axis_input input axis = if eqb axis 0 then input.x else if eqb axis 1 then input.y else input.z
+axis_input input axis = if eqb axis 0 then input.acceleration.x else if eqb axis 1 then input.acceleration.y else input.acceleration.z
 
 -- 01: the code of an axis's sampled acceleration; bit 3 of 0a, self_test_1, makes it 0 (the Rust's rule)
 unfoldable pub converted : (registers : Registers) (acceleration : ℤ) (axis : ℕ) → ℤ
