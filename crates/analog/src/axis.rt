@@ -4,7 +4,7 @@ ghost use Rattle.analog.specs.Axis as Ax;
 ghost use Rattle.analog.specs.Theorems.Bounds.{Below};
 
 use crate::decay::{Q, factors};
-use crate::types::{Acceleration, Analog, Axis, Factors};
+use crate::types::{Acceleration, Analog, Axes, Axis, Factors};
 use crate::wide::{low_64, round};
 use time::{Duration, Time};
 
@@ -146,10 +146,12 @@ impl Analog {
             z: turned(self.z, now, old.z, new.z),
         }
     }
+}
 
+impl<T: Copy> Axes<T> {
     // The axis of a number, z from 2 on. No enum of three: a type of three values would ask more of callers.
     #[tactic(auto, unfolding(crate::specs::Axis::axis_of))]
-    pub fn axis(self, axis: u8) -> Axis
+    pub fn axis(self, axis: u8) -> T
         ensures { result ≡ Ax.axis_of self axis }
     {
         match axis {
@@ -160,13 +162,13 @@ impl Analog {
     }
 
     #[tactic(auto, unfolding(crate::specs::Axis::with_axis))]
-    pub fn with_axis(self, axis: u8, a: Axis) -> Analog
+    pub fn with_axis(self, axis: u8, a: T) -> Axes<T>
         ensures { result ≡ Ax.with_axis self axis a }
     {
         match axis {
-            0 => Analog { x: a, ..self },
-            1 => Analog { y: a, ..self },
-            _ => Analog { z: a, ..self },
+            0 => Axes { x: a, ..self },
+            1 => Axes { y: a, ..self },
+            _ => Axes { z: a, ..self },
         }
     }
 }

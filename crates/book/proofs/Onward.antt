@@ -10,7 +10,7 @@ use lib.Dec.{eqb}
 use borrow.Author.Tests.{ltb-false}
 use Rattle.time.specs.declared.Time.{Time}
 use Rattle.time.specs.Time.{ticks, time}
-use Rattle.analog.specs.declared.types.Analog.{Analog}
+use Rattle.analog.specs.Axis.{Analog}
 use Rattle.calls.specs.declared.types.Timed.{Timed}
 use Rattle.calls.specs.declared.types.Call.{Call}
 use Rattle.calls.specs.Facts.{timed_facts, facts}

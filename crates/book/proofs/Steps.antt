@@ -12,7 +12,7 @@ use Rattle.sensor.specs.declared.types.Sensor.{Sensor}
 use borrow.Author.Tests.{ltb-true, ltb-false, le-leb, lt-leb}
 use Rattle.time.specs.declared.Time.{Time}
 use Rattle.time.specs.Time.{same}
-use Rattle.analog.specs.declared.types.Acceleration.{Acceleration}
+use Rattle.analog.specs.Axis.{Acceleration}
 use Rattle.nv.specs.Cycle as Cycle
 use Rattle.i2c.specs.declared.types.Levels.{Levels}
 use Rattle.i2c.specs.declared.types.Edge.{Edge}

@@ -1,7 +1,7 @@
 -- What the table of refusals asks of a call, taken from the call once.
 use Rattle.std.specs.Prelude.{ℕ, ℤ, Some, None}
 use Rattle.time.specs.declared.Time.{Time}
-use Rattle.analog.specs.declared.types.Acceleration.{Acceleration}
+use Rattle.analog.specs.Axis.{Acceleration}
 use Rattle.i2c.specs.declared.types.Levels.{Levels}
 use Rattle.calls.specs.declared.types.Timed.{Timed}
 use Rattle.calls.specs.declared.types.Call.{Call}

@@ -17,7 +17,7 @@ use Rattle.control.specs.Kinds as Kinds
 use Rattle.registers.specs.Map.{control, operation}
 use Rattle.sampling.specs.Phase.{with_clock}
 use Rattle.time.specs.Clock as Clock
-use Rattle.analog.specs.declared.types.Acceleration.{Acceleration}
+use Rattle.analog.specs.Axis.{Acceleration}
 use Rattle.sensor.specs.declared.types.Sensor.{Sensor}
 use Rattle.sensor.specs.Record.{with_frame, with_i2c, with_reads, with_sampling, with_deadlines, with_interrupts, with_supply, with_lines, put, is_quiet, four_wire, is_off, with_cycles, with_ready}
 use Rattle.sensor.specs.Image.{shadowing, copy_image, power_on}

@@ -12,7 +12,7 @@ use denote.Signature.{Signature}
 use denote.Triple.Entry.{Args}
 use denote.Triple.Spec.{Spec}
 use Rattle.time.specs.declared.Time.{Time}
-use Rattle.analog.specs.declared.types.Acceleration.{Acceleration}
+use Rattle.analog.specs.Axis.{Acceleration}
 use Rattle.i2c.specs.declared.types.Levels.{Levels}
 use Rattle.spi.specs.declared.types.Drive.{Drive}
 use Rattle.calls.specs.declared.types.Timed.{Timed}

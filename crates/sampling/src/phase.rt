@@ -15,17 +15,6 @@ use registers::fields::{
     OPERATION, SELF_TEST_1, STATUS, TEMP, WAKE_UP, has, range,
 };
 
-#[tactic(auto, unfolding(crate::specs::Phase::axis_input))]
-fn axis_input(input: Input, axis: u8) -> i32
-    ensures { result ≡ P.axis_input input axis }
-{
-    match axis {
-        0 => input.acceleration.x,
-        1 => input.acceleration.y,
-        _ => input.acceleration.z,
-    }
-}
-
 #[tactic(auto, unfolding(crate::specs::Phase::converted))]
 fn converted(registers: &[u8; 62], acceleration: i64, axis: u8) -> i16
     requires { axis < 3 }
@@ -100,10 +89,10 @@ impl Sampling {
 
 // The stage of an axis at the clock's last edge.
 fn lagged(s: &Sampling, input: Input, axis: u8) -> Axis
-    ensures { result ≡ Ax.advanced (Ax.axis_of s.now.analog axis) (C.last s.now.clock) (P.axis_input input axis) }
+    ensures { result ≡ Ax.advanced (Ax.axis_of s.now.analog axis) (C.last s.now.clock) (Ax.axis_of input.acceleration axis) }
 {
     let a = s.analog.axis(axis);
-    a.sample(s.clock.last(), axis_input(input, axis))
+    a.sample(s.clock.last(), input.acceleration.axis(axis))
 }
 
 // The stage of an axis is sampled: its code is filtered, and the answer shown.

@@ -5,7 +5,7 @@ use Rattle.laws.specs.Notation.{Byte, Address}
 use Rattle.time.specs.declared.Time.{Time}
 use Rattle.time.specs.declared.Duration.{Duration}
 use Rattle.time.specs.Time.{since, from_millis}
-use Rattle.analog.specs.declared.types.Acceleration.{Acceleration}
+use Rattle.analog.specs.Axis.{Acceleration}
 use Rattle.nv.specs.declared.WriteCycle.{WriteCycle}
 use Rattle.nv.specs.Cell.{cell_number}
 use Rattle.nv.specs.Cycle.{byte_at}

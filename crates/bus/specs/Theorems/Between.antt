@@ -3,7 +3,7 @@ use Rattle.sensor.specs.Operation.{Operation}
 use Rattle.std.specs.Prelude.{ℕ, ◌≡◌, refl, Bool, true, false, cond, not, ◌&&◌, ltb, ℤ, Option, Some, None}
 use Rattle.time.specs.declared.Time.{Time}
 use Rattle.time.specs.Time.{same}
-use Rattle.analog.specs.declared.types.Acceleration.{Acceleration}
+use Rattle.analog.specs.Axis.{Acceleration}
 use Rattle.nv.specs.Cycle as Cycle
 use Rattle.spi.specs.declared.types.Clocked.TheVariants as Clocked
 use Rattle.spi.specs.declared.types.Serial.TheVariants as Serial

@@ -9,7 +9,7 @@ use Rattle.std.proofs.Math.ListN.{length, get_or, length-set, get_or-append}
 use Rattle.std.proofs.lemmas.Bool.{eqb-false}
 use Rattle.laws.specs.Iterate.{iterate}
 use Rattle.time.specs.declared.Time.{Time}
-use Rattle.analog.specs.declared.types.Acceleration.{Acceleration}
+use Rattle.analog.specs.Axis.{Acceleration}
 use Rattle.filter.proofs.Answers.{mean_where_full, code_where_not}
 use Rattle.control.specs.declared.types.WriteKind.{WriteKind}
 use Rattle.control.specs.Lengths.{needs}

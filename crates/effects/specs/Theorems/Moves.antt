@@ -7,8 +7,7 @@ use Rattle.std.proofs.Math.Bool.{true, false}
 use Rattle.time.specs.declared.Time.{Time}
 use Rattle.time.specs.declared.Duration.{Duration}
 use Rattle.time.specs.Clock as Clock
-use Rattle.analog.specs.declared.types.Acceleration.{Acceleration}
-use Rattle.analog.specs.declared.types.Analog.{Analog}
+use Rattle.analog.specs.Axis.{Acceleration, Analog}
 use Rattle.analog.specs.Axis as A
 use Rattle.sampling.specs.declared.types.Input.{Input}
 use Rattle.sampling.specs.declared.types.Acquisition.{Acquisition}

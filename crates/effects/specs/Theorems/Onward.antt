@@ -6,7 +6,7 @@ use Rattle.laws.specs.Iterate.{iterate}
 use Rattle.time.specs.declared.Time.{Time}
 use Rattle.time.specs.Time.{ticks}
 use Rattle.time.specs.Clock as C
-use Rattle.analog.specs.declared.types.Acceleration.{Acceleration}
+use Rattle.analog.specs.Axis.{Acceleration}
 use Rattle.analog.specs.Axis as A
 use Rattle.deadlines.specs.Deadlines.{is_at}
 use Rattle.control.specs.Lengths.{needs}

@@ -12,9 +12,9 @@ use Rattle.time.specs.Time.{ticks, time, next_unit}
 use Rattle.time.specs.Clock as C
 use Rattle.time.specs.Theorems.Laws.{ticks_time}
 use Rattle.time.specs.Theorems.Edges.{within}
-use Rattle.analog.specs.declared.types.Acceleration.{Acceleration}
+use Rattle.analog.specs.Axis.{Acceleration}
 use Rattle.analog.specs.declared.types.Axis.{Axis}
-use Rattle.analog.specs.declared.types.Analog.{Analog}
+use Rattle.analog.specs.Axis.{Analog}
 use Rattle.analog.specs.Axis as A
 use Rattle.analog.proofs.Theorems.Settles.{advanced_at}
 use Rattle.sampling.specs.declared.types.Input.{Input}
