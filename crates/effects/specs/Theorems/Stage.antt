@@ -74,12 +74,12 @@ module _ (now : Time) where
   unfolding A.held
   all_held_upto g input =
       let l = le_refl (ticks now) in
-      record { x = advanced_by g.x now x l; y = advanced_by g.y now y l; z = advanced_by g.z now z l }
+      record { x = advanced_by g.x now input.x l; y = advanced_by g.y now input.y l; z = advanced_by g.z now input.z l }
 
   all_turned_upto : (g : Analog) (old new : Acceleration) → Upto now g → Upto now (A.all_turned g now old new)
   unfolding A.all_turned
   all_turned_upto g old new h =
-      record { x = turned_by g.x x new_x h.x; y = turned_by g.y y new_y h.y; z = turned_by g.z z new_z h.z }
+      record { x = turned_by g.x old.x new.x h.x; y = turned_by g.y old.y new.y h.y; z = turned_by g.z old.z new.z h.z }
 
   with_axis_upto : (g : Analog) (axis : ℕ) (a : Axis) → Upto now g → By a → Upto now (A.with_axis g axis a)
   unfolding A.with_axis
