@@ -1,6 +1,7 @@
 -- What an accepted call does to what is kept, to the supply and to the write book, said once for each call.
 use Rattle.std.specs.Prelude.{ℕ, Bool, false, not, ◌&&◌, ℤ, if◌then◌else◌, Option, Some, None}
 use Rattle.time.specs.declared.Time.{Time}
+use Rattle.analog.specs.Axis.{Acceleration}
 use Rattle.i2c.specs.declared.types.Levels.{Levels}
 use Rattle.i2c.specs.declared.types.Edge.{Edge}
 use Rattle.i2c.specs.declared.types.Action.{Action}
@@ -73,7 +74,7 @@ supplying now rail = record { time = Some now; keeps = λ k. k; rail = Some rail
 abbrev pub asking : (now : Time) (asks : Sensor → Asked) → Does
 asking now asks = record { time = Some now; keeps = λ k. k; rail = None; asks = asks }
 
-abbrev pub with_acceleration : ℤ → ℤ → ℤ → Kept → Kept
+abbrev pub with_acceleration : Acceleration → Kept → Kept
 with_acceleration input k = with_input k (record { acceleration = input; temperature_millicelsius = k.input.temperature_millicelsius })
 
 abbrev pub with_temperature : ℤ → Kept → Kept
