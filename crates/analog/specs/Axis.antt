@@ -4,7 +4,7 @@ use Rattle.time.specs.declared.Time.{Time}
 use Rattle.time.specs.Time.{lasts, since}
 use Rattle.analog.specs.declared.types.Factors.{Factors}
 use Rattle.analog.specs.declared.types.Axis.{Axis}
-use Rattle.analog.specs.declared.types.Analog.{Analog}
+use Rattle.analog.specs.declared.types.Axes.{Axes}
 use Rattle.analog.specs.Round.{round, low_64}
 use Rattle.analog.specs.Decay.{unit, factors}
 
@@ -54,6 +54,14 @@ value a = low_64 (round a.output signal)
 
 -- ---- the three axes
 
+-- an acceleration: of each axis, in millionths of g (the Rust's `Acceleration`)
+abbrev pub Acceleration : Type 0
+Acceleration = Axes ℤ
+
+-- the stage of each axis (the Rust's `analog`)
+abbrev pub Analog : Type 0
+Analog = Axes Axis
+
 abbrev pub rest : (now : Time) → Analog
 rest now = record { x = at_rest now; y = at_rest now; z = at_rest now }
 
@@ -61,21 +69,22 @@ abbrev pub all_resumed : Analog → (now : Time) → Analog
 all_resumed g now = record { x = resumed g.x now; y = resumed g.y now; z = resumed g.z now }
 
 -- `hold_analog`: every axis advances
-unfoldable pub held : Analog → (now : Time) (x y z : ℤ) → Analog
-held g now x y z = record { x = advanced g.x now x; y = advanced g.y now y; z = advanced g.z now z }
+unfoldable pub held : Analog → (now : Time) (input : Acceleration) → Analog
+held g now input = record { x = advanced g.x now input.x; y = advanced g.y now input.y; z = advanced g.z now input.z }
 
 -- a setting of an axis: where its input changes, it advances with the old one
 unfoldable pub turned : Axis → (now : Time) (old new : ℤ) → Axis
 turned a now old new = if same old new then a else advanced a now old
 
-unfoldable pub all_turned : Analog → (now : Time) (x y z new_x new_y new_z : ℤ) → Analog
-all_turned g now x y z new_x new_y new_z = record { x = turned g.x now x new_x; y = turned g.y now y new_y; z = turned g.z now z new_z }
+-- `set_input`: every axis is set
+unfoldable pub all_turned : Analog → (now : Time) (old new : Acceleration) → Analog
+all_turned g now old new = record { x = turned g.x now old.x new.x; y = turned g.y now old.y new.y; z = turned g.z now old.z new.z }
 
 -- axis 0, 1 or 2 is x, y or z
-unfoldable pub axis_of : Analog → (axis : ℕ) → Axis
+unfoldable pub axis_of : {T : Type 0} → Axes T → (axis : ℕ) → T
 axis_of g axis = if axis == 0 then g.x else if axis == 1 then g.y else g.z
 
-unfoldable pub with_axis : Analog → (axis : ℕ) → Axis → Analog
+unfoldable pub with_axis : {T : Type 0} → Axes T → (axis : ℕ) → T → Axes T
 with_axis g axis a =
     if axis == 0 then record { x = a; y = g.y; z = g.z }
     else if axis == 1 then record { x = g.x; y = a; z = g.z }

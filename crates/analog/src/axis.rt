@@ -4,7 +4,7 @@ ghost use Rattle.analog.specs.Axis as Ax;
 ghost use Rattle.analog.specs.Theorems.Bounds.{Below};
 
 use crate::decay::{Q, factors};
-use crate::types::{Analog, Axis, Factors};
+use crate::types::{Acceleration, Analog, Axes, Axis, Factors};
 use crate::wide::{low_64, round};
 use time::{Duration, Time};
 
@@ -125,40 +125,33 @@ impl Analog {
 
     // `hold_analog`.
     #[tactic(auto, unfolding(crate::specs::Axis::held))]
-    pub fn hold(self, now: Time, x: i32, y: i32, z: i32) -> Analog
-        ensures { result ≡ Ax.held self now x y z }
+    pub fn hold(self, now: Time, input: Acceleration) -> Analog
+        ensures { result ≡ Ax.held self now input }
     {
         Analog {
-            x: self.x.advance(now, x),
-            y: self.y.advance(now, y),
-            z: self.z.advance(now, z),
+            x: self.x.advance(now, input.x),
+            y: self.y.advance(now, input.y),
+            z: self.z.advance(now, input.z),
         }
     }
 
     // Every axis whose input changes advances with the old one.
     #[tactic(auto, unfolding(crate::specs::Axis::all_turned))]
-    pub fn turn(
-        self,
-        now: Time,
-        x: i32,
-        y: i32,
-        z: i32,
-        new_x: i32,
-        new_y: i32,
-        new_z: i32,
-    ) -> Analog
-        ensures { result ≡ Ax.all_turned self now x y z new_x new_y new_z }
+    pub fn turn(self, now: Time, old: Acceleration, new: Acceleration) -> Analog
+        ensures { result ≡ Ax.all_turned self now old new }
     {
         Analog {
-            x: turned(self.x, now, x, new_x),
-            y: turned(self.y, now, y, new_y),
-            z: turned(self.z, now, z, new_z),
+            x: turned(self.x, now, old.x, new.x),
+            y: turned(self.y, now, old.y, new.y),
+            z: turned(self.z, now, old.z, new.z),
         }
     }
+}
 
+impl<T: Copy> Axes<T> {
     // The axis of a number, z from 2 on. No enum of three: a type of three values would ask more of callers.
     #[tactic(auto, unfolding(crate::specs::Axis::axis_of))]
-    pub fn axis(self, axis: u8) -> Axis
+    pub fn axis(self, axis: u8) -> T
         ensures { result ≡ Ax.axis_of self axis }
     {
         match axis {
@@ -169,13 +162,13 @@ impl Analog {
     }
 
     #[tactic(auto, unfolding(crate::specs::Axis::with_axis))]
-    pub fn with_axis(self, axis: u8, a: Axis) -> Analog
+    pub fn with_axis(self, axis: u8, a: T) -> Axes<T>
         ensures { result ≡ Ax.with_axis self axis a }
     {
         match axis {
-            0 => Analog { x: a, ..self },
-            1 => Analog { y: a, ..self },
-            _ => Analog { z: a, ..self },
+            0 => Axes { x: a, ..self },
+            1 => Axes { y: a, ..self },
+            _ => Axes { z: a, ..self },
         }
     }
 }

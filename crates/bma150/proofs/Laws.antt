@@ -8,7 +8,7 @@ use Rattle.bma150.specs.Called.{reported, effect, timed_adds}
 
 pub reports_added : (s : Sensor) (now : Time) (t : Timed) → report_values (effect s now t).report ≡ reported (timed_adds t (effect s now t).report)
 unfolding effect timed_adds reported report_values
-reports_added s now (Timed.Accelerations x y z) = refl
+reports_added s now (Timed.Accelerations input) = refl
 reports_added s now (Timed.Supply rail) = refl
 reports_added s now Timed.Due = refl
 reports_added s now (Timed.Rising mosi) = refl

@@ -75,7 +75,7 @@ put_in (Added.put bytes) buffer = bytes
 
 -- 01: a timed call is `sync_local_until(now, false)` and then this; the levels after a pin report are kept
 unfoldable pub effect : Sensor → (now : Time) → Timed → Served
-effect s now (Timed.Accelerations x y z) = without_report (set_input s x y z now)
+effect s now (Timed.Accelerations input) = without_report (set_input s input now)
 effect s now (Timed.Supply rail) = set_supply s rail now
 effect s now Timed.Due = at_deadline s now
 effect s now (Timed.Rising mosi) = without_report (rising_at s mosi now)
@@ -84,7 +84,7 @@ effect s now (Timed.Pins before after) = without_report (with_lines (i2c_pins_at
 
 -- supply and due calls report
 unfoldable pub timed_adds : Timed → Option Report → Added
-timed_adds (Timed.Accelerations x y z) r = Added.nothing
+timed_adds (Timed.Accelerations input) r = Added.nothing
 timed_adds (Timed.Supply rail) r = Added.report (report_values r)
 timed_adds Timed.Due r = Added.report (report_values r)
 timed_adds (Timed.Rising mosi) r = Added.nothing

@@ -10,6 +10,7 @@ ghost use Rattle.bma150.specs.Values as Vals;
 ghost use Rattle.bma150.specs.Called as C;
 
 use crate::types::{Replied, Reported};
+use analog::types::Acceleration;
 use calls::table::{is_accepted, refusal, start_refusal};
 use calls::types::{Call, Refusal, Starting, Timed};
 use i2c::types::Levels;
@@ -63,7 +64,7 @@ fn effect(sensor: Sensor, now: Time, t: Timed) -> Served
     ensures { result ≡ C.effect sensor now t }
 {
     match t {
-        Timed::Accelerations(x, y, z) => without_report(set_input(sensor, x, y, z, now)),
+        Timed::Accelerations(input) => without_report(set_input(sensor, input, now)),
         Timed::Supply(rail) => set_supply(sensor, rail, now),
         Timed::Due => at_deadline(sensor, now),
         Timed::Rising(mosi) => without_report(rising_at(sensor, mosi, now)),
@@ -143,11 +144,11 @@ impl Bma150 {
         }
     }
 
-    pub fn accelerations(self, now: Time, x: i32, y: i32, z: i32) -> Replied
-        ensures outcome_value { Table.number result.outcome ≡ (C.called self (Call.At now (Timed.Accelerations x y z))).number }
-        ensures sensor_value { result.sensor ≡ (C.called self (Call.At now (Timed.Accelerations x y z))).sensor }
+    pub fn accelerations(self, now: Time, input: Acceleration) -> Replied
+        ensures outcome_value { Table.number result.outcome ≡ (C.called self (Call.At now (Timed.Accelerations input))).number }
+        ensures sensor_value { result.sensor ≡ (C.called self (Call.At now (Timed.Accelerations input))).sensor }
     {
-        self.timed(now, Timed::Accelerations(x, y, z)).into()
+        self.timed(now, Timed::Accelerations(input)).into()
     }
 
     #[tactic(auto, unfolding(crate::specs::Called::leaves, calls::specs::Table::unless_refused))]

@@ -62,7 +62,7 @@ supply_kept k rail now =
 
 timed_kept : (s : Sensor) (now : Time) (t : Timed) → (effect (sync_local_until s now false) now t).sensor.kept ≡ (timed_does now t).keeps s.kept
 unfolding effect timed_does
-timed_kept s now (Timed.Accelerations x y z) = ap (λ (k : Core). with_acceleration x y z k.kept) (sync_keeps s now false).same
+timed_kept s now (Timed.Accelerations input) = ap (λ (k : Core). with_acceleration input k.kept) (sync_keeps s now false).same
 timed_kept s now (Timed.Supply rail) =
     let u = sync_local_until s now false in
     ap kept_of (supply_is u rail now) ∙ supply_kept (core u) rail now ∙ ap kept_of (sync_keeps s now false).same
@@ -120,7 +120,7 @@ kept_follows b cs = after_kept (started b) cs ∙ ap (λ (k : Kept). last_kept k
 
 does_levels : (c : Call) (k : Kept) → ((does c).keeps k).lines ≡ call_levels c k.lines
 unfolding does timed_does call_levels timed_levels
-does_levels (Call.At now (Timed.Accelerations x y z)) k = refl
+does_levels (Call.At now (Timed.Accelerations input)) k = refl
 does_levels (Call.At now (Timed.Supply rail)) k = refl
 does_levels (Call.At now Timed.Due) k = refl
 does_levels (Call.At now (Timed.Rising mosi)) k = refl

@@ -10,7 +10,7 @@ use lib.Dec.{eqb}
 use borrow.Author.Tests.{ltb-false}
 use Rattle.time.specs.declared.Time.{Time}
 use Rattle.time.specs.Time.{ticks, time}
-use Rattle.analog.specs.declared.types.Analog.{Analog}
+use Rattle.analog.specs.Axis.{Analog}
 use Rattle.calls.specs.declared.types.Timed.{Timed}
 use Rattle.calls.specs.declared.types.Call.{Call}
 use Rattle.calls.specs.Facts.{timed_facts, facts}
@@ -37,7 +37,7 @@ Stands s = Upto s.last s.sensor.sampling.analog
 
 dated : (now : Time) (t : Timed) → (timed_facts now t).time ≡ Some now
 unfolding timed_facts
-dated now (Timed.Accelerations x y z) = refl
+dated now (Timed.Accelerations input) = refl
 dated now (Timed.Supply rail) = refl
 dated now Timed.Due = refl
 dated now (Timed.Rising mosi) = refl

@@ -35,7 +35,7 @@ stock_start = record { by = Starting.Checked; time = time 0; image = stock }
 
 -- x is pushed to half a g; y and z stay at 0 and 1 g, as from the start
 abbrev push : Call
-push = Call.At (time 1000) (Timed.Accelerations (pos 500000) (pos 0) (pos 1000000))
+push = Call.At (time 1000) (Timed.Accelerations (record { x = pos 500000; y = pos 0; z = pos 1000000 }))
 
 -- the supply is cut to 0 mV
 abbrev cut : Call

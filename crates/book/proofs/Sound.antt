@@ -13,6 +13,7 @@ use lib.Dec.{leb, eqb, lit≤}
 use lib.Arith.{digits_lt}
 use borrow.Author.Tests.{leb-true, leb-false, lt-leb, le-leb, eqb-true, eq-eqb}
 use Rattle.time.specs.declared.Time.{Time}
+use Rattle.analog.specs.Axis.{Acceleration}
 use Rattle.time.specs.Time.{ticks, same}
 use Rattle.time.specs.Theorems.Laws.{ticks_time_below}
 use Rattle.nv.specs.Cell.{write_length}
@@ -162,7 +163,7 @@ pub record Timely (s : Sensor) (now : Time) : Type 0 where
 
 -- what the table finds not to be so of an accepted timed call
 module _ (last : Time) (s : Sensor) (now : Time) (c : Call) (p : eqb (T.refusal last (interaction_deadline s) s.kept.lines c) 0 ≡ true) where
-  pub timely : (axes : Option (ℤ × ℤ × ℤ)) (from : Option Levels) → facts c ≡ record { kind = Kind.Timed; time = Some now; bytes = None; axes = axes; lines = from } → Timely s now
+  pub timely : (axes : Option Acceleration) (from : Option Levels) → facts c ≡ record { kind = Kind.Timed; time = Some now; bytes = None; axes = axes; lines = from } → Timely s now
   unfolding T.too_late T.before_due T.due_by
   timely axes from e =
       let q = clear last (interaction_deadline s) s.kept.lines c p in

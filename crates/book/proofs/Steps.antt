@@ -12,6 +12,7 @@ use Rattle.sensor.specs.declared.types.Sensor.{Sensor}
 use borrow.Author.Tests.{ltb-true, ltb-false, le-leb, lt-leb}
 use Rattle.time.specs.declared.Time.{Time}
 use Rattle.time.specs.Time.{same}
+use Rattle.analog.specs.Axis.{Acceleration}
 use Rattle.nv.specs.Cycle as Cycle
 use Rattle.i2c.specs.declared.types.Levels.{Levels}
 use Rattle.i2c.specs.declared.types.Edge.{Edge}
@@ -82,11 +83,11 @@ module _ (b : Bma150) (h : Sound (core b.sensor)) where
         kept = q;
       })
 
-  moved_accelerations : (now : Time) (x y z : ℤ) → Timely s now → Goes now (Timed.Accelerations x y z)
+  moved_accelerations : (now : Time) (input : Acceleration) → Timely s now → Goes now (Timed.Accelerations input)
   unfolding effect timed_does changed_at supplied began accepted_write
-  moved_accelerations now x y z a =
-      same_parts now (with_acceleration x y z s.kept) _ _ a
-      (ap (λ (k : Core). keeping k (with_acceleration x y z k.kept)) (sync_keeps s now false).same) refl refl
+  moved_accelerations now input a =
+      same_parts now (with_acceleration input s.kept) _ _ a
+      (ap (λ (k : Core). keeping k (with_acceleration input k.kept)) (sync_keeps s now false).same) refl refl
 
   moved_falling : (now : Time) → Timely s now → Goes now Timed.Falling
   unfolding effect timed_does changed_at supplied began accepted_write
@@ -288,7 +289,7 @@ module _ (b : Bma150) (h : Sound (core b.sensor)) where
 
   moved_timed : (now : Time) (t : Timed) → FitsTimed now t → accepts b (Call.At now t) ≡ true → Goes now t
   unfolding facts timed_facts
-  moved_timed now (Timed.Accelerations x y z) small p = moved_accelerations now x y z (timely b.last s now (Call.At now (Timed.Accelerations x y z)) p _ _ refl)
+  moved_timed now (Timed.Accelerations input) small p = moved_accelerations now input (timely b.last s now (Call.At now (Timed.Accelerations input)) p _ _ refl)
   moved_timed now (Timed.Supply rail) small p = moved_supply now rail (timely b.last s now (Call.At now (Timed.Supply rail)) p _ _ refl)
   moved_timed now Timed.Due small p = moved_due now (due_now b.last s now (Call.At now Timed.Due) p refl)
   moved_timed now (Timed.Rising mosi) small p = moved_rising now mosi small (timely b.last s now (Call.At now (Timed.Rising mosi)) p _ _ refl)

@@ -14,7 +14,7 @@ use Rattle.effects.specs.Theorems.Walk.{sync_meets, supply_meets, due_meets, ris
 module _ (now : Time) (R : Sensor → Sensor → Type 0) (p : Steps now R) where
   effect_meets : (s : Sensor) (t : Timed) → R s (effect s now t).sensor
   unfolding effect
-  effect_meets s (Timed.Accelerations x y z) = p.sets s x y z
+  effect_meets s (Timed.Accelerations input) = p.sets s input
   effect_meets s (Timed.Supply rail) = supply_meets now R p s rail
   effect_meets s Timed.Due = due_meets now R p s
   effect_meets s (Timed.Rising mosi) = rising_meets now R p s mosi

@@ -1,6 +1,7 @@
 -- What an accepted call does to what is kept, to the supply and to the write book, said once for each call.
 use Rattle.std.specs.Prelude.{ℕ, Bool, false, not, ◌&&◌, ℤ, if◌then◌else◌, Option, Some, None}
 use Rattle.time.specs.declared.Time.{Time}
+use Rattle.analog.specs.Axis.{Acceleration}
 use Rattle.i2c.specs.declared.types.Levels.{Levels}
 use Rattle.i2c.specs.declared.types.Edge.{Edge}
 use Rattle.i2c.specs.declared.types.Action.{Action}
@@ -73,11 +74,11 @@ supplying now rail = record { time = Some now; keeps = λ k. k; rail = Some rail
 abbrev pub asking : (now : Time) (asks : Sensor → Asked) → Does
 asking now asks = record { time = Some now; keeps = λ k. k; rail = None; asks = asks }
 
-abbrev pub with_acceleration : ℤ → ℤ → ℤ → Kept → Kept
-with_acceleration x y z k = with_input k (record { x = x; y = y; z = z; temperature_millicelsius = k.input.temperature_millicelsius })
+abbrev pub with_acceleration : Acceleration → Kept → Kept
+with_acceleration input k = with_input k (record { acceleration = input; temperature_millicelsius = k.input.temperature_millicelsius })
 
 abbrev pub with_temperature : ℤ → Kept → Kept
-with_temperature t k = with_input k (record { x = k.input.x; y = k.input.y; z = k.input.z; temperature_millicelsius = t })
+with_temperature t k = with_input k (record { acceleration = k.input.acceleration; temperature_millicelsius = t })
 
 abbrev pub rise_asks : (now : Time) (mosi : Bool) → Sensor → Asked
 rise_asks now mosi s = record { write = spi_write (at_rise s now) mosi; meets = at_rise s now }
@@ -86,7 +87,7 @@ abbrev pub pins_ask : (now : Time) (before after : Levels) → Sensor → Asked
 pins_ask now before after s = record { write = i2c_write (at_pins s (edge before after) now) (edge before after); meets = at_pins s (edge before after) now }
 
 unfoldable pub timed_does : (now : Time) → Timed → Does
-timed_does now (Timed.Accelerations x y z) = record { time = Some now; keeps = with_acceleration x y z; rail = None; asks = no_write }
+timed_does now (Timed.Accelerations input) = record { time = Some now; keeps = with_acceleration input; rail = None; asks = no_write }
 timed_does now (Timed.Supply rail) = supplying now rail
 timed_does now Timed.Due = timed now
 timed_does now (Timed.Rising mosi) = asking now (rise_asks now mosi)

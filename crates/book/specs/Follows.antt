@@ -12,7 +12,7 @@ use Rattle.book.specs.Lists.{Start, started, accepts, after, accepted}
 
 -- an accepted report brings the levels after it; no other call changes them
 unfoldable pub timed_levels : Timed → (before : Levels) → Levels
-timed_levels (Timed.Accelerations x y z) before = before
+timed_levels (Timed.Accelerations input) before = before
 timed_levels (Timed.Supply rail) before = before
 timed_levels Timed.Due before = before
 timed_levels (Timed.Rising mosi) before = before

@@ -34,7 +34,7 @@ pub record Heard (s : Sensor) : Type 0 where
 
 -- the event of a timed call: that of a report (UM10204 3.1.3, 3.1.4)
 unfoldable pub timed_event : Timed → Edge
-timed_event (Timed.Accelerations x y z) = Still
+timed_event (Timed.Accelerations input) = Still
 timed_event (Timed.Supply rail) = Still
 timed_event Timed.Due = Still
 timed_event (Timed.Rising mosi) = Still
@@ -91,7 +91,7 @@ resets s (A.ReadBegan r) = false
 
 -- a timed call ends hearing; a report by what the engine asks for, of the sensor with the sample of its moment
 unfoldable pub timed_ends : Sensor → (now : Time) → Timed → Bool
-timed_ends s now (Timed.Accelerations x y z) = false
+timed_ends s now (Timed.Accelerations input) = false
 timed_ends s now (Timed.Supply rail) = ltb rail 2400
 timed_ends s now Timed.Due = false
 timed_ends s now (Timed.Rising mosi) = false

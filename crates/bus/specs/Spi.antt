@@ -29,7 +29,7 @@ pub record Chosen (s : Sensor) : Type 0 where
 
 -- the edge of a timed call
 unfoldable pub timed_edge : Timed → Option Event
-timed_edge (Timed.Accelerations x y z) = None
+timed_edge (Timed.Accelerations input) = None
 timed_edge (Timed.Supply rail) = None
 timed_edge Timed.Due = None
 timed_edge (Timed.Rising mosi) = Some (Rise mosi)
@@ -82,7 +82,7 @@ now_at_fall s now =
 
 -- at a timed call; of no account where there is no edge
 unfoldable pub timed_now : Bma150 → (now : Time) → Timed → Now
-timed_now s now (Timed.Accelerations x y z) = past_end
+timed_now s now (Timed.Accelerations input) = past_end
 timed_now s now (Timed.Supply rail) = past_end
 timed_now s now Timed.Due = past_end
 timed_now s now (Timed.Rising mosi) = now_at_rise s now (Call.At now (Timed.Rising mosi))
@@ -106,7 +106,7 @@ write_resets s (Some (r, v)) = is_reset (write_kind s r v)
 
 -- a timed call ends hearing; a rise by the write that it makes
 unfoldable pub timed_leaves : Sensor → (now : Time) → Timed → Bool
-timed_leaves s now (Timed.Accelerations x y z) = false
+timed_leaves s now (Timed.Accelerations input) = false
 timed_leaves s now (Timed.Supply rail) = ltb rail 2400
 timed_leaves s now Timed.Due = false
 timed_leaves s now (Timed.Rising mosi) = write_resets (noted (at_rise s now)) (spi_write (at_rise s now) mosi)

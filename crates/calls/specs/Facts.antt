@@ -1,6 +1,7 @@
 -- What the table of refusals asks of a call, taken from the call once.
 use Rattle.std.specs.Prelude.{ℕ, ℤ, Some, None}
 use Rattle.time.specs.declared.Time.{Time}
+use Rattle.analog.specs.Axis.{Acceleration}
 use Rattle.i2c.specs.declared.types.Levels.{Levels}
 use Rattle.calls.specs.declared.types.Timed.{Timed}
 use Rattle.calls.specs.declared.types.Call.{Call}
@@ -20,8 +21,8 @@ abbrev pub bringing : (now : Time) (n : ℕ) → Facts
 bringing now n = record { kind = Kind.Untimed; time = Some now; bytes = Some n; axes = None; lines = None }
 
 -- a timed call that sets the accelerations
-abbrev pub setting : (now : Time) (x y z : ℤ) → Facts
-setting now x y z = record { kind = Kind.Timed; time = Some now; bytes = None; axes = Some (x, y, z); lines = None }
+abbrev pub setting : (now : Time) (input : Acceleration) → Facts
+setting now input = record { kind = Kind.Timed; time = Some now; bytes = None; axes = Some input; lines = None }
 
 -- an I2C pin report
 abbrev pub reporting : (now : Time) (before : Levels) → Facts
@@ -29,7 +30,7 @@ reporting now before = record { kind = Kind.Timed; time = Some now; bytes = None
 
 -- 01: a timed call is accelerations, supply, due moment, SPI edge, I2C pins
 unfoldable pub timed_facts : (now : Time) → Timed → Facts
-timed_facts now (Timed.Accelerations x y z) = setting now x y z
+timed_facts now (Timed.Accelerations input) = setting now input
 timed_facts now (Timed.Supply rail) = at Kind.Timed now
 timed_facts now Timed.Due = at Kind.Due now
 timed_facts now (Timed.Rising mosi) = at Kind.Timed now

@@ -4,6 +4,7 @@ use Rattle.std.specs.Bool.{beq}
 use Rattle.std.specs.Int.Signed.{lt_z}
 use Rattle.time.specs.declared.Time.{Time}
 use Rattle.time.specs.Time.{precedes}
+use Rattle.analog.specs.Axis.{Acceleration}
 use Rattle.registers.specs.Map.{range, bandwidth}
 use Rattle.i2c.specs.declared.types.Levels.{Levels}
 use Rattle.deadlines.specs.Deadlines.{is_at, is_by}
@@ -80,11 +81,11 @@ wrong_length None = false
 unfoldable pub beyond : (axis : ℤ) → Bool
 beyond axis = lt_z (pos 1000000000) axis || lt_z axis (neg_ℤ (pos 1000000000))
 
-unfoldable pub any_beyond : ℤ → ℤ → ℤ → Bool
-any_beyond x y z = beyond x || (beyond y || beyond z)
+unfoldable pub any_beyond : Acceleration → Bool
+any_beyond input = beyond input.x || (beyond input.y || beyond input.z)
 
-unfoldable pub out_of_range : Option (ℤ × ℤ × ℤ) → Bool
-out_of_range (Some (x, y, z)) = any_beyond x y z
+unfoldable pub out_of_range : Option Acceleration → Bool
+out_of_range (Some input) = any_beyond input
 out_of_range None = false
 
 -- 3: whole seconds are 2^32 or more

@@ -4,6 +4,7 @@ ghost use Rattle.calls.specs.Facts as F;
 ghost use Rattle.calls.specs.Table as Table;
 
 use crate::types::{Call, Facts, Kind, Refusal, Starting, Timed};
+use analog::types::Acceleration;
 use deadlines::{is_at, is_by};
 use i2c::types::Levels;
 use registers::fields::{bandwidth, range};
@@ -42,11 +43,11 @@ fn bringing(now: Time, n: usize) -> Facts
     }
 }
 
-fn setting(now: Time, x: i32, y: i32, z: i32) -> Facts
-    ensures { result ≡ F.setting now x y z }
+fn setting(now: Time, input: Acceleration) -> Facts
+    ensures { result ≡ F.setting now input }
 {
     Facts {
-        axes: Some((x, y, z)),
+        axes: Some(input),
         ..at(Kind::Timed, now)
     }
 }
@@ -65,7 +66,7 @@ fn timed_facts(now: Time, t: Timed) -> Facts
     ensures { result ≡ F.timed_facts now t }
 {
     match t {
-        Timed::Accelerations(x, y, z) => setting(now, x, y, z),
+        Timed::Accelerations(input) => setting(now, input),
         Timed::Supply(_) | Timed::Rising(_) | Timed::Falling => at(Kind::Timed, now),
         Timed::Due => at(Kind::Due, now),
         Timed::Pins(before, _) => reporting(now, before),
@@ -123,10 +124,10 @@ fn beyond(axis: i32) -> bool
 
 // 2.
 #[tactic(auto, unfolding(crate::specs::Table::out_of_range, crate::specs::Table::any_beyond))]
-fn out_of_range(axes: Option<(i32, i32, i32)>) -> bool
+fn out_of_range(axes: Option<Acceleration>) -> bool
     ensures { result ≡ Table.out_of_range axes }
 {
-    axes.is_some_and(|(x, y, z)| beyond(x) || beyond(y) || beyond(z))
+    axes.is_some_and(|input| beyond(input.x) || beyond(input.y) || beyond(input.z))
 }
 
 // 8.

@@ -1,11 +1,12 @@
 // A call of a host and its arguments, and what it answers first: accepted, or refused and why.
+use analog::types::Acceleration;
 use i2c::types::Levels;
 use time::Time;
 
 // What a timed call does at its moment.
 #[derive(Clone, Copy, PartialEq, Eq)]
 pub enum Timed {
-    Accelerations(i32, i32, i32),
+    Accelerations(Acceleration),
     Supply(u16),
     Due,
     Rising(bool),
@@ -59,6 +60,6 @@ pub struct Facts {
     pub kind: Kind,
     pub time: Option<Time>,
     pub bytes: Option<usize>,
-    pub axes: Option<(i32, i32, i32)>,
+    pub axes: Option<Acceleration>,
     pub lines: Option<Levels>,
 }

@@ -81,7 +81,7 @@ image l = part 13 19 l
 
 -- 02 accelerations T, three signed 4-byte numbers
 unfoldable pub accelerations : List ℕ → Command
-accelerations l = within 25 l (timed l (Timed.Accelerations (signed_at 13 l) (signed_at 17 l) (signed_at 21 l)))
+accelerations l = within 25 l (timed l (Timed.Accelerations (record { x = signed_at 13 l; y = signed_at 17 l; z = signed_at 21 l })))
 
 -- 03 temperature, signed 4 bytes
 unfoldable pub temperature : List ℕ → Command
@@ -199,7 +199,7 @@ wants c = size_by (opcode c)
 
 -- how many bytes the command of a timed call is: its byte, T and the operands
 unfoldable pub timed_size : Timed → ℕ
-timed_size (Timed.Accelerations x y z) = 25
+timed_size (Timed.Accelerations input) = 25
 timed_size (Timed.Supply rail) = 15
 timed_size Timed.Due = 13
 timed_size (Timed.Rising mosi) = 14

@@ -41,7 +41,7 @@ lines_byte before after = weighed before.scl 8 + weighed before.sda 4 + weighed 
 
 -- 02, 04, 05, 07, 08, 09
 unfoldable pub timed_bytes : Time → Timed → List ℕ
-timed_bytes t (Timed.Accelerations x y z) = 0x02 ∷ (time_bytes t ++ signed_bytes x ++ signed_bytes y ++ signed_bytes z)
+timed_bytes t (Timed.Accelerations input) = 0x02 ∷ (time_bytes t ++ signed_bytes input.x ++ signed_bytes input.y ++ signed_bytes input.z)
 timed_bytes t (Timed.Supply rail) = 0x04 ∷ (time_bytes t ++ bytes 2 rail)
 timed_bytes t Timed.Due = 0x05 ∷ time_bytes t
 timed_bytes t (Timed.Rising mosi) = 0x07 ∷ (time_bytes t ++ (weighed mosi 1 ∷ []))
@@ -79,7 +79,7 @@ SignedFits z = mag z < 2 ^ 31
 
 -- every axis is a signed number, the rail has 2 bytes
 unfoldable pub TimedFits : Timed → Type 0
-TimedFits (Timed.Accelerations x y z) = SignedFits x × SignedFits y × SignedFits z
+TimedFits (Timed.Accelerations input) = SignedFits input.x × SignedFits input.y × SignedFits input.z
 TimedFits (Timed.Supply rail) = rail < 2 ^ 16
 TimedFits Timed.Due = Unit {0}
 TimedFits (Timed.Rising mosi) = Unit {0}

@@ -4,6 +4,7 @@
 ghost use Rattle.std.specs.Prelude.{◌≡◌, ◌+◌, ◌≤◌, ◌<◌, ◌⊎◌, length, drop, MatchOption};
 ghost use Rattle.commands.specs.Decode as D;
 
+use analog::types::Acceleration;
 use calls::types::{Call, Starting, Timed};
 use i2c::types::Levels;
 use time::Time;
@@ -158,10 +159,12 @@ fn timed(command: &[u8], what: Timed) -> Option<Command>
 fn accelerations(command: &[u8]) -> Option<Command>
     ensures { D.or_bad result ≡ D.accelerations command.now }
 {
-    let x = signed(command, 13)?;
-    let y = signed(command, 17)?;
-    let z = signed(command, 21)?;
-    timed(command, Timed::Accelerations(x, y, z))
+    let input = Acceleration {
+        x: signed(command, 13)?,
+        y: signed(command, 17)?,
+        z: signed(command, 21)?,
+    };
+    timed(command, Timed::Accelerations(input))
 }
 
 // A byte 0..15: bits 3 and 2 the clock and data before, 1 and 0 after.
@@ -222,7 +225,7 @@ fn timed_size(t: Timed) -> usize
     ensures { result ≡ D.timed_size t }
 {
     match t {
-        Timed::Accelerations(_, _, _) => 25,
+        Timed::Accelerations(_) => 25,
         Timed::Supply(_) => 15,
         Timed::Due | Timed::Falling => 13,
         Timed::Rising(_) | Timed::Pins(_, _) => 14,

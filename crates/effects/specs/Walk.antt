@@ -17,6 +17,7 @@ use Rattle.control.specs.Kinds as Kinds
 use Rattle.registers.specs.Map.{control, operation}
 use Rattle.sampling.specs.Phase.{with_clock}
 use Rattle.time.specs.Clock as Clock
+use Rattle.analog.specs.Axis.{Acceleration}
 use Rattle.sensor.specs.declared.types.Sensor.{Sensor}
 use Rattle.sensor.specs.Record.{with_frame, with_i2c, with_reads, with_sampling, with_deadlines, with_interrupts, with_supply, with_lines, put, is_quiet, four_wire, is_off, with_cycles, with_ready}
 use Rattle.sensor.specs.Image.{shadowing, copy_image, power_on}
@@ -81,6 +82,6 @@ pub record Steps (now : Time) (R : Sensor → Sensor → Type 0) : Type 0 where
   pub meets_zero : (s : Sensor) → is_off s ≡ true → R s (with_supply s (record { unpowered_since = s.supply.unpowered_since; cold = true }))
   pub comes_back : (s : Sensor) → is_off s ≡ true → R s (with_supply (with_deadlines s (shifted s.deadlines (outage s.supply.unpowered_since now))) (record { unpowered_since = None; cold = s.supply.cold }))
   pub powers_on : (s : Sensor) → is_off s ≡ true → R s (power_on s now)
-  pub sets : (s : Sensor) (x y z : ℤ) → R s (set_input s x y z now)
+  pub sets : (s : Sensor) (input : Acceleration) → R s (set_input s input now)
   pub follows : (s : Sensor) (lines : Levels) → R s (with_lines s lines)
   pub warms : (s : Sensor) (millicelsius : ℤ) → R s (set_temperature s millicelsius)

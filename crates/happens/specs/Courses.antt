@@ -27,7 +27,7 @@ spi selected clock = record { selected = selected; clock = clock }
 
 -- an edge of the clock: it falls where it is high and rises where it is low; no other timed call fits
 unfoldable pub spi_edge : SpiPins → Timed → Option SpiPins
-spi_edge p (Timed.Accelerations x y z) = None
+spi_edge p (Timed.Accelerations input) = None
 spi_edge p (Timed.Supply rail) = None
 spi_edge p Timed.Due = None
 spi_edge p (Timed.Rising mosi) = if p.clock then None else Some (spi p.selected true)
@@ -54,7 +54,7 @@ lines scl sda = record { scl = scl; sda = sda }
 
 -- a report begins at the levels that the lines have; no other timed call fits
 unfoldable pub i2c_report : Levels → Timed → Option Levels
-i2c_report l (Timed.Accelerations x y z) = None
+i2c_report l (Timed.Accelerations input) = None
 i2c_report l (Timed.Supply rail) = None
 i2c_report l Timed.Due = None
 i2c_report l (Timed.Rising mosi) = None

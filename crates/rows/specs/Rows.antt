@@ -38,7 +38,7 @@ off_at rail = answer (is_off (Supply.set_supply new rail (time 0)).sensor)
 
 -- M12: the refusal of accelerations with this x, nothing due
 abbrev refused_axis : ℕ → ℤ
-refused_axis x = pos (refusal (time 0) None new_kept.lines (Call.At (time 0) (Timed.Accelerations (pos x) (pos 0) (pos 0))))
+refused_axis x = pos (refusal (time 0) None new_kept.lines (Call.At (time 0) (Timed.Accelerations (record { x = pos x; y = pos 0; z = pos 0 }))))
 
 -- M4: window 4 (bandwidth 4), codes −1, 0, 0 and then 0
 abbrev fourth_answer : ℤ

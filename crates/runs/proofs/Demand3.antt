@@ -141,7 +141,7 @@ exists b p t q cs =
 
 last_of : (s : Bma150) (c : Call) → (leaves s c).last ≡ moved s.last (does c).time
 unfolding leaves moved does timed_does
-last_of s (Call.At now (Timed.Accelerations x y z)) = refl
+last_of s (Call.At now (Timed.Accelerations input)) = refl
 last_of s (Call.At now (Timed.Supply rail)) = refl
 last_of s (Call.At now Timed.Due) = refl
 last_of s (Call.At now (Timed.Rising mosi)) = refl

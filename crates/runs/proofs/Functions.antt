@@ -76,7 +76,7 @@ unfolding timed_adds adds leaves T.unless_refused
 served_is {s} (Serves.timed {now = now} {t = t} r o p q) =
     (p.1.0, answer_is s (Call.At now t) r.sensor _ _ o q p.1.0 p.0 (reported_is s now t _ r.report p.0 p.1.1))
 served_is {s} (Serves.accelerations {now = now} {x = x} {y = y} {z = z} r o p q) =
-    (p.1, answer_is s (Call.At now (Timed.Accelerations x y z)) r.sensor _ _ o q p.1 p.0 (silent_is s now (Timed.Accelerations x y z) _ p.0 refl))
+    (p.1, answer_is s (Call.At now (Timed.Accelerations input)) r.sensor _ _ o q p.1 p.0 (silent_is s now (Timed.Accelerations input) _ p.0 refl))
 served_is {s} (Serves.temperature {m = m} t o p q) =
     let e = temperature_accepted s.last (interaction_deadline s.sensor) s.sensor.kept.lines m in
     (p, answer_is s (Call.Temperature m) t _ _ o q p (sym e) (sym (ap (λ (n : ℕ). T.unless_refused n Added.nothing Added.nothing) e)))
@@ -152,7 +152,7 @@ altered_at l = record { ref_ptr = (0, 0); ghost_name = 0; now = l }
 -- a report with these values
 timed_report : (t : Timed) (q : Option Report) → (r : Option Report) × (report_values r ≡ reported (timed_adds t q))
 unfolding timed_adds reported report_values
-timed_report (Timed.Accelerations x y z) q = (None, refl)
+timed_report (Timed.Accelerations input) q = (None, refl)
 timed_report (Timed.Supply rail) q = (q, refl)
 timed_report Timed.Due q = (q, refl)
 timed_report (Timed.Rising mosi) q = (None, refl)

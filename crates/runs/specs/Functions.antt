@@ -12,6 +12,7 @@ use denote.Signature.{Signature}
 use denote.Triple.Entry.{Args}
 use denote.Triple.Spec.{Spec}
 use Rattle.time.specs.declared.Time.{Time}
+use Rattle.analog.specs.Axis.{Acceleration}
 use Rattle.i2c.specs.declared.types.Levels.{Levels}
 use Rattle.spi.specs.declared.types.Drive.{Drive}
 use Rattle.calls.specs.declared.types.Timed.{Timed}
@@ -120,9 +121,9 @@ handed u b o = answered (T.number u) (T.unless_refused (T.number u) Added.nothin
 pub data Serves : Bma150 → Call → Bma150 → Answer → Type 0 where
   timed : {s : Bma150} {now : Time} {t : Timed} (r : Reported) (o : Pins) → timed_reads.Post tt (s, (now, (t, tt))) r (s, (now, (t, tt))) → Observed r.sensor o
       → Serves s (Call.At now t) r.sensor (replied r.outcome t r.report o)
-  accelerations : {s : Bma150} {now : Time} {x y z : ℤ} (r : Replied) (o : Pins)
+  accelerations : {s : Bma150} {now : Time} {input : Acceleration} (r : Replied) (o : Pins)
       → accelerations_reads.Post tt (s, (now, (x, (y, (z, tt))))) r (s, (now, (x, (y, (z, tt))))) → Observed r.sensor o
-      → Serves s (Call.At now (Timed.Accelerations x y z)) r.sensor (replied r.outcome (Timed.Accelerations x y z) None o)
+      → Serves s (Call.At now (Timed.Accelerations input)) r.sensor (replied r.outcome (Timed.Accelerations input) None o)
   temperature : {s : Bma150} {m : ℤ} (t : Bma150) (o : Pins) → temperature_reads.Post tt (s, (m, tt)) t (s, (m, tt)) → Observed t o
       → Serves s (Call.Temperature m) t (accepted Added.nothing o)
   supply : {s : Bma150} {now : Time} {rail : ℕ} (r : Reported) (o : Pins) → supply_reads.Post tt (s, (now, (rail, tt))) r (s, (now, (rail, tt))) → Observed r.sensor o

@@ -5,7 +5,7 @@ use Rattle.laws.specs.Iterate.{iterate}
 use Rattle.time.specs.declared.Clock.{Clock}
 use Rattle.time.specs.Clock as C
 use Rattle.analog.specs.declared.types.Axis.{Axis}
-use Rattle.analog.specs.declared.types.Analog.{Analog}
+use Rattle.analog.specs.Axis.{Analog}
 use Rattle.analog.specs.Axis as A
 use Rattle.filter.specs.declared.Filter.{Filter}
 use Rattle.filter.specs.Filter.{window, pushed, full, answered}
@@ -61,8 +61,8 @@ abbrev pub phase_of : (ordinal : ℕ) → ℕ
 phase_of ordinal = (ordinal % 4 + 3) % 4
 
 -- an axis of the acceleration last set
-unfoldable pub axis_input : (input : Input) (axis : ℕ) → ℤ
-axis_input input axis = if eqb axis 0 then input.x else if eqb axis 1 then input.y else input.z
+abbrev pub axis_input : (input : Input) (axis : ℕ) → ℤ
+axis_input input axis = A.axis_of input.acceleration axis
 
 -- 01: the code of an axis's sampled acceleration; bit 3 of 0a, self_test_1, makes it 0 (the Rust's rule)
 unfoldable pub converted : (registers : Registers) (acceleration : ℤ) (axis : ℕ) → ℤ

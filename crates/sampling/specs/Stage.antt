@@ -1,6 +1,7 @@
 -- What moves the stage beside the phases (analog.rs, as devices/bma150.rs and bma150/control.rs call it).
 use Rattle.std.specs.Prelude.{ℤ, if◌then◌else◌}
 use Rattle.time.specs.declared.Time.{Time}
+use Rattle.analog.specs.Axis.{Acceleration}
 use Rattle.analog.specs.Axis as A
 use Rattle.sampling.specs.declared.types.Input.{Input}
 use Rattle.sampling.specs.declared.types.Sampling.{Sampling}
@@ -16,8 +17,8 @@ resumed s now = with_analog s (A.all_resumed s.analog now)
 
 -- awake, every axis advances with its input (`hold_analog`, before a pause and a loss of supply)
 unfoldable pub held : Sampling → (now : Time) (input : Input) → Sampling
-held s now input = if s.asleep then s else with_analog s (A.held s.analog now input.x input.y input.z)
+held s now input = if s.asleep then s else with_analog s (A.held s.analog now input.acceleration)
 
 -- awake, every axis whose input changes advances with the old one (`set_input`)
-unfoldable pub turned : Sampling → (now : Time) (input : Input) (x y z : ℤ) → Sampling
-turned s now input x y z = if s.asleep then s else with_analog s (A.all_turned s.analog now input.x input.y input.z x y z)
+unfoldable pub turned : Sampling → (now : Time) (old new : Acceleration) → Sampling
+turned s now old new = if s.asleep then s else with_analog s (A.all_turned s.analog now old new)

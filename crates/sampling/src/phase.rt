@@ -15,17 +15,6 @@ use registers::fields::{
     OPERATION, SELF_TEST_1, STATUS, TEMP, WAKE_UP, has, range,
 };
 
-#[tactic(auto, unfolding(crate::specs::Phase::axis_input))]
-fn axis_input(input: Input, axis: u8) -> i32
-    ensures { result ≡ P.axis_input input axis }
-{
-    match axis {
-        0 => input.x,
-        1 => input.y,
-        _ => input.z,
-    }
-}
-
 #[tactic(auto, unfolding(crate::specs::Phase::converted))]
 fn converted(registers: &[u8; 62], acceleration: i64, axis: u8) -> i16
     requires { axis < 3 }
@@ -34,7 +23,7 @@ fn converted(registers: &[u8; 62], acceleration: i64, axis: u8) -> i16
     if has(registers[CONTROL], SELF_TEST_1) {
         return 0;
     }
-    let a = axis as usize;
+    let a = usize::from(axis);
     code(
         acceleration,
         offset(registers[OFFSET_LSB + a], registers[OFFSET_MSB + a]),
@@ -100,35 +89,27 @@ impl Sampling {
 
 // The stage of an axis at the clock's last edge.
 fn lagged(s: &Sampling, input: Input, axis: u8) -> Axis
-    ensures { result ≡ Ax.advanced (Ax.axis_of s.now.analog axis) (C.last s.now.clock) (P.axis_input input axis) }
+    ensures { result ≡ Ax.advanced (Ax.axis_of s.now.analog axis) (C.last s.now.clock) (Ax.axis_of input.acceleration axis) }
 {
     let a = s.analog.axis(axis);
-    a.sample(s.clock.last(), axis_input(input, axis))
+    a.sample(s.clock.last(), input.acceleration.axis(axis))
 }
 
-// A code of an axis is filtered, and the answer shown.
-fn filtered_code(c: &mut Acquisition, axis: u8, k: i16)
+// The stage of an axis is sampled: its code is filtered, and the answer shown.
+fn measured(c: &mut Acquisition, input: Input, axis: u8)
     requires { axis < 3 }
-    ensures { c.new ≡ P.filtered_code c.old axis k }
+    ensures { c.new ≡ P.measured c.old input axis }
 {
-    let a = axis as usize;
+    let a = usize::from(axis);
+    let stage = lagged(&c.sampling, input, axis);
+    let k = converted(&c.registers, stage.value(), axis);
+    c.sampling.analog = c.sampling.analog.with_axis(axis, stage);
     let (answer, full) = c.sampling.filter.take_code(axis, k);
     c.registers[ACC_LSB + a * 2] = code_low(answer);
     c.registers[ACC_MSB + a * 2] = code_high(answer);
     c.sampling.filtered[a] = answer;
     c.sampling.means[a] = full;
     c.interrupts = c.interrupts.axis(axis, answer, c.registers);
-}
-
-// The stage of an axis is sampled.
-fn measured(c: &mut Acquisition, input: Input, axis: u8)
-    requires { axis < 3 }
-    ensures { c.new ≡ P.measured c.old input axis }
-{
-    let a = lagged(&c.sampling, input, axis);
-    let k = converted(&c.registers, a.value(), axis);
-    c.sampling.analog = c.sampling.analog.with_axis(axis, a);
-    filtered_code(c, axis, k);
 }
 
 // The scan is complete: it is counted, and observed for motion.

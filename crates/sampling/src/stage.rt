@@ -4,7 +4,7 @@ ghost use Rattle.sampling.specs.Phase as P;
 ghost use Rattle.sampling.specs.Stage as S;
 
 use crate::types::{Input, Sampling};
-use analog::types::Analog;
+use analog::types::{Acceleration, Analog};
 use time::Time;
 
 impl Sampling {
@@ -33,16 +33,16 @@ impl Sampling {
         if self.asleep {
             return self;
         }
-        self.with_analog(self.analog.hold(now, input.x, input.y, input.z))
+        self.with_analog(self.analog.hold(now, input.acceleration))
     }
 
     #[tactic(auto, unfolding(crate::specs::Stage::turned))]
-    pub fn turn(self, now: Time, input: Input, x: i32, y: i32, z: i32) -> Sampling
-        ensures { result ≡ S.turned self now input x y z }
+    pub fn turn(self, now: Time, old: Acceleration, new: Acceleration) -> Sampling
+        ensures { result ≡ S.turned self now old new }
     {
         if self.asleep {
             return self;
         }
-        self.with_analog(self.analog.turn(now, input.x, input.y, input.z, x, y, z))
+        self.with_analog(self.analog.turn(now, old, new))
     }
 }

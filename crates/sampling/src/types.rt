@@ -1,19 +1,18 @@
 // What a sample phase needs and changes.
-use analog::types::Analog;
+use analog::types::{Acceleration, Analog};
 use filter::Filter;
 use interrupts::Interrupts;
 use time::Clock;
 
-// The acceleration in millionths of g and the temperature in thousandths of a degree, as last set.
+// The acceleration and the temperature in thousandths of a degree, as last set.
 #[derive(Clone, Copy)]
 pub struct Input {
-    pub x: i32,
-    pub y: i32,
-    pub z: i32,
+    pub acceleration: Acceleration,
     pub temperature_millicelsius: i32,
 }
 
-// `test` tells how many phases the self test still lasts, while it runs (the Rust's `test_phases`). `means` says of each axis whether the value that it shows is the mean of a full window or a single code.
+// `test` tells how many phases the self test still lasts, while it runs (the Rust's `test_phases`). `means` says of each axis whether the
+// value that it shows is the mean of a full window or a single code; it stands beside `filtered`, which the motion criterion takes whole.
 #[derive(Clone, Copy)]
 pub struct Sampling {
     pub filter: Filter,

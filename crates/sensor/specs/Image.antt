@@ -69,7 +69,7 @@ reset_registers = set (set (replicate 62 0) chip_id 2) version 0x10
 -- the start's acceleration 0, 0, 1000000 and temperature 20000 (the Rust's `STILL` and `new`), both I2C lines high
 abbrev pub new_kept : Kept
 new_kept = record {
-  input = record { x = pos 0; y = pos 0; z = pos 1000000; temperature_millicelsius = pos 20000 };
+  input = record { acceleration = record { x = pos 0; y = pos 0; z = pos 1000000 }; temperature_millicelsius = pos 20000 };
   lines = record { scl = true; sda = true };
 }
 

@@ -3,7 +3,7 @@ ghost use Rattle.std.specs.Prelude.{◌≡◌};
 ghost use Rattle.sensor.specs.Image as Im;
 
 use crate::types::{Kept, Sensor, Supply};
-use analog::types::Analog;
+use analog::types::{Acceleration, Analog};
 use deadlines::{Deadlines, Wait};
 use filter::Filter;
 use i2c::types::{Levels, State};
@@ -114,9 +114,11 @@ fn new_kept() -> Kept
     ensures { result ≡ Im.new_kept }
 {
     let input = Input {
-        x: 0,
-        y: 0,
-        z: 1000000,
+        acceleration: Acceleration {
+            x: 0,
+            y: 0,
+            z: 1000000,
+        },
         temperature_millicelsius: 20000,
     };
     let lines = Levels {

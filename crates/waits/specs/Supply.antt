@@ -5,6 +5,7 @@ use Rattle.laws.specs.Notation.{Byte, Address}
 use Rattle.time.specs.declared.Time.{Time}
 use Rattle.time.specs.declared.Duration.{Duration}
 use Rattle.time.specs.Time.{since, from_millis}
+use Rattle.analog.specs.Axis.{Acceleration}
 use Rattle.nv.specs.declared.WriteCycle.{WriteCycle}
 use Rattle.nv.specs.Cell.{cell_number}
 use Rattle.nv.specs.Cycle.{byte_at}
@@ -97,11 +98,11 @@ set_supply s rail now = if ltb rail 2400 then supply_low s (eqb rail 0) now else
 -- ---- inputs
 
 -- with supply, the stage of an axis that changes is first brought up to now
-unfoldable pub turned : Sensor → (x y z : ℤ) (now : Time) → Sampling
-turned s x y z now = if is_off s then s.sampling else Stage.turned s.sampling now s.kept.input x y z
+unfoldable pub turned : Sensor → (input : Acceleration) (now : Time) → Sampling
+turned s input now = if is_off s then s.sampling else Stage.turned s.sampling now s.kept.input.acceleration input
 
-abbrev pub set_input : Sensor → (x y z : ℤ) (now : Time) → Sensor
-set_input s x y z now = with_kept (with_sampling s (turned s x y z now)) (with_input s.kept (record { x = x; y = y; z = z; temperature_millicelsius = s.kept.input.temperature_millicelsius }))
+abbrev pub set_input : Sensor → (input : Acceleration) (now : Time) → Sensor
+set_input s input now = with_kept (with_sampling s (turned s input now)) (with_input s.kept (record { acceleration = input; temperature_millicelsius = s.kept.input.temperature_millicelsius }))
 
 abbrev pub set_temperature : Sensor → ℤ → Sensor
-set_temperature s t = with_kept s (with_input s.kept (record { x = s.kept.input.x; y = s.kept.input.y; z = s.kept.input.z; temperature_millicelsius = t }))
+set_temperature s t = with_kept s (with_input s.kept (record { acceleration = s.kept.input.acceleration; temperature_millicelsius = t }))

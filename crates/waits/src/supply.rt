@@ -3,8 +3,9 @@ ghost use Rattle.std.specs.Prelude.{◌≡◌};
 ghost use Rattle.waits.specs.Supply as Sup;
 
 use crate::types::{Report, Served};
+use analog::types::Acceleration;
 use nv::WriteCycle;
-use sampling::types::{Input, Sampling};
+use sampling::types::Sampling;
 use sensor::image::{cell_byte, with_cell};
 use sensor::types::{Sensor, Supply};
 use time::{Duration, Time};
@@ -151,25 +152,22 @@ pub fn set_supply(sensor: Sensor, rail: u16, now: Time) -> Served
 }
 
 #[tactic(auto, unfolding(crate::specs::Supply::turned))]
-fn turned(sensor: Sensor, x: i32, y: i32, z: i32, now: Time) -> Sampling
-    ensures { result ≡ Sup.turned sensor x y z now }
+fn turned(sensor: Sensor, input: Acceleration, now: Time) -> Sampling
+    ensures { result ≡ Sup.turned sensor input now }
 {
     if sensor.is_off() {
         return sensor.sampling;
     }
-    sensor.sampling.turn(now, sensor.kept.input, x, y, z)
+    sensor
+        .sampling
+        .turn(now, sensor.kept.input.acceleration, input)
 }
 
-pub fn set_input(mut sensor: Sensor, x: i32, y: i32, z: i32, now: Time) -> Sensor
-    ensures { result ≡ Sup.set_input sensor x y z now }
+pub fn set_input(mut sensor: Sensor, input: Acceleration, now: Time) -> Sensor
+    ensures { result ≡ Sup.set_input sensor input now }
 {
-    sensor.sampling = turned(sensor, x, y, z, now);
-    sensor.kept.input = Input {
-        x,
-        y,
-        z,
-        ..sensor.kept.input
-    };
+    sensor.sampling = turned(sensor, input, now);
+    sensor.kept.input.acceleration = input;
     sensor
 }
 

@@ -18,7 +18,7 @@ use Rattle.bma150.specs.Called.{Added, reported, of_view, put_in, timed_adds, se
 -- a timed call's report fixes what it adds
 report_is : (t : Timed) (r q : Option Report) → report_values r ≡ reported (timed_adds t q) → timed_adds t r ≡ timed_adds t q
 unfolding timed_adds reported
-report_is (Timed.Accelerations x y z) r q e = refl
+report_is (Timed.Accelerations input) r q e = refl
 report_is (Timed.Supply rail) r q e = ap Added.report e
 report_is Timed.Due r q e = ap Added.report e
 report_is (Timed.Rising mosi) r q e = refl

@@ -13,7 +13,7 @@ Word c = (now : Time) → (does c).time ≡ Some now → now.1 < 2 ^ 64
 -- whatever its kind and its other arguments
 pub fits : (c : Call) → Word c → Fits c
 unfolding does timed_does
-fits (Call.At now (Timed.Accelerations x y z)) w = tt
+fits (Call.At now (Timed.Accelerations input)) w = tt
 fits (Call.At now (Timed.Supply rail)) w = tt
 fits (Call.At now Timed.Due) w = tt
 fits (Call.At now (Timed.Rising mosi)) w = w now refl

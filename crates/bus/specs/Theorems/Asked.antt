@@ -65,7 +65,7 @@ module _ (s : Sensor) (h : Heard s) where
 
   timed_asks : (now : Time) (t : Timed) → ((timed_does now t).asks s).write ≡ action_write (deed (target_of s) (timed_event t))
   unfolding timed_does timed_event
-  timed_asks now (Timed.Accelerations x y z) = none
+  timed_asks now (Timed.Accelerations input) = none
   timed_asks now (Timed.Supply rail) = none
   timed_asks now Timed.Due = none
   timed_asks now (Timed.Rising mosi) = rise_write mosi now ∙ none

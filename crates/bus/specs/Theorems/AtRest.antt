@@ -254,7 +254,7 @@ due_alike s now =
 
 timed_rests : (u : Sensor) (now : Time) (t : Timed) → Rested u.frame → Rested (effect u now t).sensor.frame
 unfolding effect
-timed_rests u now (Timed.Accelerations x y z) h = h
+timed_rests u now (Timed.Accelerations input) h = h
 timed_rests u now (Timed.Supply rail) h = supply_rests u rail now h
 timed_rests u now Timed.Due h = rested (due_alike u now) h
 timed_rests u now (Timed.Rising mosi) h = rise_rests (E.rise_synced u now) mosi now (rested (kept (K.rise_synced_keeps u now)) h)

@@ -3,6 +3,7 @@ use Rattle.sensor.specs.Operation.{Operation}
 use Rattle.std.specs.Prelude.{ℕ, ◌≡◌, refl, Bool, true, false, cond, not, ◌&&◌, ltb, ℤ, Option, Some, None}
 use Rattle.time.specs.declared.Time.{Time}
 use Rattle.time.specs.Time.{same}
+use Rattle.analog.specs.Axis.{Acceleration}
 use Rattle.nv.specs.Cycle as Cycle
 use Rattle.spi.specs.declared.types.Clocked.TheVariants as Clocked
 use Rattle.spi.specs.declared.types.Serial.TheVariants as Serial
@@ -104,8 +105,8 @@ module _ (s : Sensor) (h : Heard s) where
 
 -- ---- acceleration and temperature are no part of the bus
 
-pub input_same : (s : Sensor) (x y z : ℤ) (now : Time) → Same s (set_input s x y z now)
-input_same s x y z now = record { same = refl }
+pub input_same : (s : Sensor) (input : Acceleration) (now : Time) → Same s (set_input s input now)
+input_same s input now = record { same = refl }
 
 pub temperature_same : (s : Sensor) (x : ℤ) → Same s (set_temperature s x)
 temperature_same s x = record { same = refl }

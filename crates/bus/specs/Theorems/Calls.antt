@@ -3,6 +3,7 @@ use Rattle.std.specs.Prelude.{ℕ, ◌≡◌, Bool, true, false, ltb, ℤ, if◌
 use Rattle.std.proofs.Math.Path.{refl, ap}
 use Rattle.std.proofs.Common.{sym, subst, ◌∙◌}
 use Rattle.time.specs.declared.Time.{Time}
+use Rattle.analog.specs.Axis.{Acceleration}
 use Rattle.i2c.specs.declared.types.Edge.{Edge}
 use Rattle.i2c.specs.declared.types.Edge.TheVariants.{Still}
 use Rattle.i2c.specs.declared.types.Action.{Action}
@@ -122,9 +123,9 @@ module _ (s : Sensor) (now : Time) (h : Heard s) where
   abbrev g : Heard (caught s now)
   g = heard caught_up h
 
-  input_left : (x y z : ℤ) → Same s (effect (caught s now) now (Timed.Accelerations x y z)).sensor
+  input_left : (input : Acceleration) → Same s (effect (caught s now) now (Timed.Accelerations input)).sensor
   unfolding effect
-  input_left x y z = and_then caught_up (input_same (caught s now) x y z now)
+  input_left input = and_then caught_up (input_same (caught s now) input now)
 
   supply_left : (rail : ℕ) → ltb rail 2400 ≡ false → Same s (effect (caught s now) now (Timed.Supply rail)).sensor
   unfolding effect
@@ -144,7 +145,7 @@ module _ (s : Sensor) (now : Time) (h : Heard s) where
 
   timed_served : (t : Timed) → timed_ends s now t ≡ false → target_of (effect (caught s now) now t).sensor ≡ serve (fetch (sampled s now)) (target_of s) (timed_event t)
   unfolding effect timed_event timed_ends
-  timed_served (Timed.Accelerations x y z) n = still _ (input_left x y z)
+  timed_served (Timed.Accelerations input) n = still _ (input_left input)
   timed_served (Timed.Supply rail) n = still _ (supply_left rail n)
   timed_served Timed.Due n = still _ due_left
   timed_served (Timed.Rising mosi) n = still _ (rising_left mosi)
@@ -153,7 +154,7 @@ module _ (s : Sensor) (now : Time) (h : Heard s) where
 
   timed_heard : (t : Timed) → timed_ends s now t ≡ false → Heard (effect (caught s now) now t).sensor
   unfolding effect timed_ends
-  timed_heard (Timed.Accelerations x y z) n = heard (input_left x y z) h
+  timed_heard (Timed.Accelerations input) n = heard (input_left input) h
   timed_heard (Timed.Supply rail) n = heard (supply_left rail n) h
   timed_heard Timed.Due n = heard due_left h
   timed_heard (Timed.Rising mosi) n = heard (rising_left mosi) h
@@ -164,7 +165,7 @@ module _ (s : Sensor) (now : Time) (h : Heard s) where
 
   timed_unheard : (t : Timed) → timed_ends s now t ≡ true → Heard (effect (caught s now) now t).sensor → ⊥
   unfolding effect timed_ends
-  timed_unheard (Timed.Accelerations x y z) n k = absurd_bool (sym n)
+  timed_unheard (Timed.Accelerations input) n k = absurd_bool (sym n)
   timed_unheard (Timed.Supply rail) n k = absurd_bool (sym (supply_lost (caught s now) rail now g n) ∙ k.on)
   timed_unheard Timed.Due n k = absurd_bool (sym n)
   timed_unheard (Timed.Rising mosi) n k = absurd_bool (sym n)

@@ -92,7 +92,7 @@ abbrev chip_id : List Call
 chip_id =
     start (time 0)
     ++ byte (time 0) false 0x70
-    ++ (Call.Temperature (pos 20000) ∷ Call.At (time 0) (Timed.Accelerations (pos 1) (pos 2) (pos 3)) ∷ [])
+    ++ (Call.Temperature (pos 20000) ∷ Call.At (time 0) (Timed.Accelerations (record { x = pos 1; y = pos 2; z = pos 3 })) ∷ [])
     ++ byte (time 0) false 0x00
     ++ (Call.At later (Timed.Rising true) ∷ Call.At (time 0) Timed.Due ∷ Call.View 0 ∷ [])
     ++ again later

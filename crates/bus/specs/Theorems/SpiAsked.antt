@@ -112,7 +112,7 @@ module _ (s : Bma150) (h : Chosen s.sensor) (ws : List (Option (ℕ × ℕ))) wh
 
   timed_asks : (now : Time) (t : Timed) → and_write ((timed_does now t).asks s.sensor).write ws ≡ some_writes s (Call.At now t) (timed_edge t) ws
   unfolding timed_does timed_edge some_writes and_write now_of timed_now deeds
-  timed_asks now (Timed.Accelerations x y z) = refl
+  timed_asks now (Timed.Accelerations input) = refl
   timed_asks now (Timed.Supply rail) = refl
   timed_asks now Timed.Due = refl
   timed_asks now (Timed.Rising mosi) = rise_asks s.sensor h now (now_of s (Call.At now (Timed.Rising mosi))) mosi ws

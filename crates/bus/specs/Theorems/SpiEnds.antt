@@ -88,7 +88,7 @@ module _ (s : Bma150) (h : Chosen s.sensor) where
 
   timed_unheard : (now : Time) (t : Timed) → timed_leaves s.sensor now t ≡ true → Chosen (effect (caught now) now t).sensor → ⊥
   unfolding effect timed_leaves
-  timed_unheard now (Timed.Accelerations x y z) e k = absurd_bool (sym e)
+  timed_unheard now (Timed.Accelerations input) e k = absurd_bool (sym e)
   timed_unheard now (Timed.Supply rail) e k = absurd_bool (sym (lost (caught now) rail now (heard now).on e) ∙ k.on)
   timed_unheard now Timed.Due e k = absurd_bool (sym e)
   timed_unheard now (Timed.Rising mosi) e k =

@@ -5,6 +5,7 @@ use Rattle.std.proofs.Common.{◌∙◌}
 use Rattle.std.proofs.Math.Bool.{false}
 use Rattle.laws.specs.Bools.{or_left, or_right}
 use Rattle.time.specs.declared.Time.{Time}
+use Rattle.analog.specs.Axis.{Acceleration}
 use Rattle.i2c.specs.declared.types.Levels.{Levels}
 use Rattle.spi.specs.declared.types.Frame.{Frame}
 use Rattle.spi.specs.Frame as F
@@ -118,9 +119,9 @@ module _ (s : Bma150) (now : Time) (h : Chosen s.sensor) where
         hears = heard s now t ok h (effect y now t).sensor refl (around_same p) (chosen (and_then (same s now t ok h) p) h).selected;
       }
 
-  input_left : (a b d : ℤ) → accepts s (at_now (Timed.Accelerations a b d)) ≡ true → Left s (at_now (Timed.Accelerations a b d))
+  input_left : (input : Acceleration) → accepts s (at_now (Timed.Accelerations input)) ≡ true → Left s (at_now (Timed.Accelerations input))
   unfolding effect timed_edge
-  input_left a b d ok = no_edge (Timed.Accelerations a b d) ok refl (record { same = refl }) (unfaded refl)
+  input_left input ok = no_edge (Timed.Accelerations input) ok refl (record { same = refl }) (unfaded refl)
 
   supplied : (rail : ℕ) → ltb rail 2400 ≡ false → is_off y ≡ false → (set_supply y rail now).sensor ≡ y
   unfolding set_supply supply_ok
@@ -188,7 +189,7 @@ module _ (s : Bma150) (now : Time) (h : Chosen s.sensor) where
 
   timed_left : (t : Timed) → timed_leaves s.sensor now t ≡ false → accepts s (at_now t) ≡ true → Left s (at_now t)
   unfolding timed_leaves
-  timed_left (Timed.Accelerations a b d) e ok = input_left a b d ok
+  timed_left (Timed.Accelerations input) e ok = input_left input ok
   timed_left (Timed.Supply rail) e ok = supply_left rail e ok
   timed_left Timed.Due e ok = due_left ok
   timed_left (Timed.Rising mosi) e ok = rise_left mosi e ok

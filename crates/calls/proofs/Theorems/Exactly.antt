@@ -4,6 +4,7 @@ use Rattle.std.proofs.Common.{arith, sym, ap, ◌∙◌, inl, inr, leb-true, le-
 use Rattle.std.specs.Bool.{beq}
 use Rattle.time.specs.declared.Time.{Time}
 use Rattle.time.specs.Time.{ticks}
+use Rattle.analog.specs.Axis.{Acceleration}
 use Rattle.i2c.specs.declared.types.Levels.{Levels}
 use Rattle.deadlines.specs.Deadlines.{is_at, is_by}
 use Rattle.calls.specs.declared.types.Timed.{Timed}
@@ -46,9 +47,13 @@ HasTime (Call.Select on) So = ⊥
 HasTime (Call.View address) So = ⊥
 HasTime (Call.StoredImage now n) So = So now
 
+-- 2: some axis is beyond
+abbrev pub AnyBeyond : Acceleration → Type 0
+AnyBeyond input = Beyond input.x ⊎ (Beyond input.y ⊎ Beyond input.z)
+
 -- 2, 5 and 6: of the timed calls
 abbrev pub AxisBeyond : Timed → Type 0
-AxisBeyond (Timed.Accelerations x y z) = Beyond x ⊎ (Beyond y ⊎ Beyond z)
+AxisBeyond (Timed.Accelerations input) = AnyBeyond input
 AxisBeyond (Timed.Supply rail) = ⊥
 AxisBeyond Timed.Due = ⊥
 AxisBeyond (Timed.Rising mosi) = ⊥
@@ -57,7 +62,7 @@ AxisBeyond (Timed.Pins before after) = ⊥
 
 -- 8: the levels before a pin report are not those after the last accepted one
 abbrev pub Jumps : (lines : Levels) → Timed → Type 0
-Jumps lines (Timed.Accelerations x y z) = ⊥
+Jumps lines (Timed.Accelerations input) = ⊥
 Jumps lines (Timed.Supply rail) = ⊥
 Jumps lines Timed.Due = ⊥
 Jumps lines (Timed.Rising mosi) = ⊥
@@ -65,7 +70,7 @@ Jumps lines Timed.Falling = ⊥
 Jumps lines (Timed.Pins before after) = before ≡ lines → ⊥
 
 abbrev pub DueFirst : Option Time → Time → Timed → Type 0
-DueFirst due now (Timed.Accelerations x y z) = DueBy due now
+DueFirst due now (Timed.Accelerations input) = DueBy due now
 DueFirst due now (Timed.Supply rail) = DueBy due now
 DueFirst due now Timed.Due = ⊥
 DueFirst due now (Timed.Rising mosi) = DueBy due now
@@ -73,7 +78,7 @@ DueFirst due now Timed.Falling = DueBy due now
 DueFirst due now (Timed.Pins before after) = DueBy due now
 
 abbrev pub NotDue : Option Time → Time → Timed → Type 0
-NotDue due now (Timed.Accelerations x y z) = ⊥
+NotDue due now (Timed.Accelerations input) = ⊥
 NotDue due now (Timed.Supply rail) = ⊥
 NotDue due now Timed.Due = DueAt due now → ⊥
 NotDue due now (Timed.Rising mosi) = ⊥
@@ -137,15 +142,15 @@ either_right : (a b : Bool) → b ≡ true → (a || b) ≡ true
 either_right true b e = refl
 either_right false b e = e
 
-axes_only : (x y z : ℤ) → any_beyond x y z ≡ true → Beyond x ⊎ (Beyond y ⊎ Beyond z)
+axes_only : (input : Acceleration) → any_beyond input ≡ true → AnyBeyond input
 unfolding any_beyond
-axes_only x y z p = either_only (beyond x) (beyond y || beyond z) (axis_only x) (either_only (beyond y) (beyond z) (axis_only y) (axis_only z)) p
+axes_only a p = either_only (beyond a.x) (beyond a.y || beyond a.z) (axis_only a.x) (either_only (beyond a.y) (beyond a.z) (axis_only a.y) (axis_only a.z)) p
 
-axes_whole : (x y z : ℤ) → Beyond x ⊎ (Beyond y ⊎ Beyond z) → any_beyond x y z ≡ true
+axes_whole : (input : Acceleration) → AnyBeyond input → any_beyond input ≡ true
 unfolding any_beyond
-axes_whole x y z (inl p) = either_left (beyond x) _ (axis_whole x p)
-axes_whole x y z (inr (inl p)) = either_right (beyond x) _ (either_left (beyond y) _ (axis_whole y p))
-axes_whole x y z (inr (inr p)) = either_right (beyond x) _ (either_right (beyond y) _ (axis_whole z p))
+axes_whole a (inl p) = either_left (beyond a.x) _ (axis_whole a.x p)
+axes_whole a (inr (inl p)) = either_right (beyond a.x) _ (either_left (beyond a.y) _ (axis_whole a.y p))
+axes_whole a (inr (inr p)) = either_right (beyond a.x) _ (either_right (beyond a.y) _ (axis_whole a.z p))
 
 by_only : (due : Option Time) (now : Time) → is_by due now ≡ true → DueBy due now
 unfolding is_by
@@ -195,8 +200,8 @@ by_tells due now = record { only = by_only due now; whole = by_whole due now }
 not_at_tells : (due : Option Time) (now : Time) → Tells (DueAt due now → ⊥) (not (is_at due now))
 not_at_tells due now = record { only = not_only (is_at due now) (at_whole due now); whole = not_whole (is_at due now) (at_only due now) }
 
-axes_tell : (x y z : ℤ) → Tells (Beyond x ⊎ (Beyond y ⊎ Beyond z)) (any_beyond x y z)
-axes_tell x y z = record { only = axes_only x y z; whole = axes_whole x y z }
+axes_tell : (input : Acceleration) → Tells (AnyBeyond input) (any_beyond input)
+axes_tell input = record { only = axes_only input; whole = axes_whole input }
 
 reserved_whole : (m : ℕ) → Reserved m → reserved m ≡ true
 unfolding reserved
@@ -262,7 +267,7 @@ module _ (last : Time) (due : Option Time) (lines : Levels) where
 
   timed_found : (now : Time) (t : Timed) → Found (Call.At now t)
   unfolding facts timed_facts wrong_length too_late goes_back out_of_range jumps before_due beside_due due_by due_at
-  timed_found now (Timed.Accelerations x y z) = found (Call.At now (Timed.Accelerations x y z)) never_tells (late_tells now) (back_tells last now) (axes_tell x y z) never_tells (by_tells due now) never_tells
+  timed_found now (Timed.Accelerations input) = found (Call.At now (Timed.Accelerations input)) never_tells (late_tells now) (back_tells last now) (axes_tell input) never_tells (by_tells due now) never_tells
   timed_found now (Timed.Supply rail) = found (Call.At now (Timed.Supply rail)) never_tells (late_tells now) (back_tells last now) never_tells never_tells (by_tells due now) never_tells
   timed_found now Timed.Due = found (Call.At now Timed.Due) never_tells (late_tells now) (back_tells last now) never_tells never_tells never_tells (not_at_tells due now)
   timed_found now (Timed.Rising mosi) = found (Call.At now (Timed.Rising mosi)) never_tells (late_tells now) (back_tells last now) never_tells never_tells (by_tells due now) never_tells

@@ -64,11 +64,11 @@ stored_images =
 
 abbrev accelerations : List ℕ
 accelerations =
-    refusal (s (2 ^ 33)) (Some (s 1)) high (Call.At far (Timed.Accelerations wide wide wide))
-    ∷ refusal (s 9) (Some (s 1)) high (Call.At (s 8) (Timed.Accelerations (pos 0) wide (pos 0)))
-    ∷ refusal (s 9) (Some (s 9)) high (Call.At (s 9) (Timed.Accelerations (pos 0) (pos 0) wide))
-    ∷ refusal (s 9) (Some (s 9)) high (Call.At (s 9) (Timed.Accelerations (pos 1000000000) (pos 0) (pos 0)))
-    ∷ refusal (s 9) (Some (s 10)) high (Call.At (s 9) (Timed.Accelerations (pos 1000000000) (pos 0) (pos 0)))
+    refusal (s (2 ^ 33)) (Some (s 1)) high (Call.At far (Timed.Accelerations (record { x = wide; y = wide; z = wide })))
+    ∷ refusal (s 9) (Some (s 1)) high (Call.At (s 8) (Timed.Accelerations (record { x = pos 0; y = wide; z = pos 0 })))
+    ∷ refusal (s 9) (Some (s 9)) high (Call.At (s 9) (Timed.Accelerations (record { x = pos 0; y = pos 0; z = wide })))
+    ∷ refusal (s 9) (Some (s 9)) high (Call.At (s 9) (Timed.Accelerations (record { x = pos 1000000000; y = pos 0; z = pos 0 })))
+    ∷ refusal (s 9) (Some (s 10)) high (Call.At (s 9) (Timed.Accelerations (record { x = pos 1000000000; y = pos 0; z = pos 0 })))
     ∷ []
 
 abbrev timed : Timed → List ℕ

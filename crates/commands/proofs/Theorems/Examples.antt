@@ -22,7 +22,7 @@ latest = record { 0 = 4294967295; 1 = 18446744073709551615 }
 
 -- the least, the greatest and the last negative acceleration
 abbrev extreme : Command
-extreme = Command.Host (Call.At latest (Timed.Accelerations (negsuc 2147483647) (pos 2147483647) (negsuc 0)))
+extreme = Command.Host (Call.At latest (Timed.Accelerations (record { x = negsuc 2147483647; y = pos 2147483647; z = negsuc 0 })))
 
 extreme_fits : Fits extreme []
 unfolding Fits CallFits TimedFits

@@ -203,7 +203,7 @@ module _ (l m : List ℕ) where
 
 timed_size_pos : (t : Timed) → 1 ≤ timed_size t
 unfolding timed_size
-timed_size_pos (Timed.Accelerations x y z) = omega arith
+timed_size_pos (Timed.Accelerations input) = omega arith
 timed_size_pos (Timed.Supply rail) = omega arith
 timed_size_pos Timed.Due = omega arith
 timed_size_pos (Timed.Rising mosi) = omega arith

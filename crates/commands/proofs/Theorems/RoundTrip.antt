@@ -79,8 +79,8 @@ read b n l c d which h e =
 
 timed_back : (t : Time) (what : Timed) (rest : List ℕ) → TimeFits t → TimedFits what → decoded (timed_bytes t what ++ rest) ≡ Command.Host (Call.At t what)
 unfolding timed_bytes time_bytes bytes TimedFits opcode named accelerations supply due rising falling pins number_at
-timed_back t (Timed.Accelerations x y z) rest f g =
-    read 0x02 25 _ _ _ refl (omega arith) (rw (time_back 0x02 t (bytes 4 (complement x) ++ bytes 4 (complement y) ++ bytes 4 (complement z) ++ rest) f, signed_bytes_back x g.0, signed_bytes_back y g.1, signed_bytes_back z g.2))
+timed_back t (Timed.Accelerations input) rest f g =
+    read 0x02 25 _ _ _ refl (omega arith) (rw (time_back 0x02 t (bytes 4 (complement input.x) ++ bytes 4 (complement input.y) ++ bytes 4 (complement input.z) ++ rest) f, signed_bytes_back input.x g.0, signed_bytes_back input.y g.1, signed_bytes_back input.z g.2))
 timed_back t (Timed.Supply rail) rest f g = read 0x04 15 _ _ _ refl (omega arith) (rw (time_back 0x04 t (bytes 2 rail ++ rest) f, big_bytes 2 rail g))
 timed_back t Timed.Due rest f g = read 0x05 13 _ _ _ refl (omega arith) (rw (time_back 0x05 t rest f))
 timed_back t (Timed.Rising false) rest f g = read 0x07 14 _ _ _ refl (omega arith) (rw (time_back 0x07 t (0 ∷ rest) f))
@@ -118,7 +118,7 @@ image_round_trip by t given rest f = take_at given rest 19 f.1
 
 timed_written : (t : Time) (what : Timed) → length (timed_bytes t what) ≡ timed_size what
 unfolding timed_bytes timed_size time_bytes bytes
-timed_written t (Timed.Accelerations x y z) = refl
+timed_written t (Timed.Accelerations input) = refl
 timed_written t (Timed.Supply rail) = refl
 timed_written t Timed.Due = refl
 timed_written t (Timed.Rising mosi) = refl

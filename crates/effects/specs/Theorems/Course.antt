@@ -9,6 +9,7 @@ use Rattle.std.proofs.Math.ListN.{length, get_or, length-set, get_or-append}
 use Rattle.std.proofs.lemmas.Bool.{eqb-false}
 use Rattle.laws.specs.Iterate.{iterate}
 use Rattle.time.specs.declared.Time.{Time}
+use Rattle.analog.specs.Axis.{Acceleration}
 use Rattle.filter.proofs.Answers.{mean_where_full, code_where_not}
 use Rattle.control.specs.declared.types.WriteKind.{WriteKind}
 use Rattle.control.specs.Lengths.{needs}
@@ -76,13 +77,13 @@ held_keeps : (g : Sampling) (now : Time) (input : Input) → ((Stage.held g now 
 unfolding Stage.held
 held_keeps g now input = either g.asleep g _ g (refl, refl) (refl, refl)
 
-turned_keeps : (g : Sampling) (now : Time) (input : Input) (x y z : ℤ) → ((Stage.turned g now input x y z).means ≡ g.means) × ((Stage.turned g now input x y z).filter ≡ g.filter)
+turned_keeps : (g : Sampling) (now : Time) (old new : Acceleration) → ((Stage.turned g now old new).means ≡ g.means) × ((Stage.turned g now old new).filter ≡ g.filter)
 unfolding Stage.turned
-turned_keeps g now input x y z = either g.asleep g _ g (refl, refl) (refl, refl)
+turned_keeps g now old new = either g.asleep g _ g (refl, refl) (refl, refl)
 
-set_keeps : (s : Sensor) (x y z : ℤ) (now : Time) → ((S.turned s x y z now).means ≡ s.sampling.means) × ((S.turned s x y z now).filter ≡ s.sampling.filter)
+set_keeps : (s : Sensor) (input : Acceleration) (now : Time) → ((S.turned s input now).means ≡ s.sampling.means) × ((S.turned s input now).filter ≡ s.sampling.filter)
 unfolding S.turned
-set_keeps s x y z now = either (is_off s) s.sampling _ s.sampling (refl, refl) (turned_keeps s.sampling now s.kept.input x y z)
+set_keeps s input now = either (is_off s) s.sampling _ s.sampling (refl, refl) (turned_keeps s.sampling now s.kept.input.acceleration input)
 
 -- a low byte without its new-data bit shows the same value
 low_same : (l : List ℕ) (i j : ℕ) → get_or (set l i (without_new_data (get_or l i 0))) j 0 / 2 ≡ get_or l j 0 / 2
@@ -282,7 +283,7 @@ module _ (now : Time) where
     meets_zero = λ s o. stays refl refl refl refl;
     comes_back = λ s o. stays refl refl refl refl;
     powers_on = λ s o. fresh refl refl refl (Course.returned Course.here now);
-    sets = λ s x y z. let k = set_keeps s x y z now in stays refl refl k.0 k.1;
+    sets = λ s input. let k = set_keeps s input now in stays refl refl k.0 k.1;
     follows = λ s lines. stays refl refl refl refl;
     warms = λ s millicelsius. stays refl refl refl refl;
   }

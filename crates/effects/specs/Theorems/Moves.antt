@@ -7,7 +7,7 @@ use Rattle.std.proofs.Math.Bool.{true, false}
 use Rattle.time.specs.declared.Time.{Time}
 use Rattle.time.specs.declared.Duration.{Duration}
 use Rattle.time.specs.Clock as Clock
-use Rattle.analog.specs.declared.types.Analog.{Analog}
+use Rattle.analog.specs.Axis.{Acceleration, Analog}
 use Rattle.analog.specs.Axis as A
 use Rattle.sampling.specs.declared.types.Input.{Input}
 use Rattle.sampling.specs.declared.types.Acquisition.{Acquisition}
@@ -32,13 +32,13 @@ stage_of c = c.sampling.analog
 
 -- the acceleration that is set
 abbrev x_of : Sensor → ℤ
-x_of s = s.kept.input.x
+x_of s = s.kept.input.acceleration.x
 
 abbrev y_of : Sensor → ℤ
-y_of s = s.kept.input.y
+y_of s = s.kept.input.acceleration.y
 
 abbrev z_of : Sensor → ℤ
-z_of s = s.kept.input.z
+z_of s = s.kept.input.acceleration.z
 
 -- the stage with every axis advanced to a moment with the acceleration that is set
 abbrev pub caught_up : Sensor → (now : Time) → Analog
@@ -56,10 +56,10 @@ pub record Moves : Type 0 where
   pub temperature : (c : Acquisition) (input : Input) (needs : List ℕ) → Phase.phase_of c.sampling.clock.ordinal ≡ 0 → stage_of (Phase.sample_phase c input needs) ≡ stage_of c
   pub self_test : (c : Acquisition) (input : Input) (needs : List ℕ) (left : ℕ) → c.sampling.test ≡ Some left → stage_of (Phase.sample_phase c input needs) ≡ stage_of c
   -- ---- a setting, with supply and awake: an axis that changes advances with the old acceleration, one that does not stays; else none moves
-  pub set : (s : Sensor) (x y z : ℤ) (now : Time) → is_off s ≡ false → s.sampling.asleep ≡ false
-      → stage (set_input s x y z now) ≡ record { x = A.turned (stage s).x now (x_of s) x; y = A.turned (stage s).y now (y_of s) y; z = A.turned (stage s).z now (z_of s) z }
-  pub set_asleep : (s : Sensor) (x y z : ℤ) (now : Time) → s.sampling.asleep ≡ true → stage (set_input s x y z now) ≡ stage s
-  pub set_off : (s : Sensor) (x y z : ℤ) (now : Time) → is_off s ≡ true → stage (set_input s x y z now) ≡ stage s
+  pub set : (s : Sensor) (input : Acceleration) (now : Time) → is_off s ≡ false → s.sampling.asleep ≡ false
+      → stage (set_input s input now) ≡ record { x = A.turned (stage s).x now (x_of s) input.x; y = A.turned (stage s).y now (y_of s) input.y; z = A.turned (stage s).z now (z_of s) input.z }
+  pub set_asleep : (s : Sensor) (input : Acceleration) (now : Time) → s.sampling.asleep ≡ true → stage (set_input s input now) ≡ stage s
+  pub set_off : (s : Sensor) (input : Acceleration) (now : Time) → is_off s ≡ true → stage (set_input s input now) ≡ stage s
   -- ---- a pause and the loss of supply: awake, all axes advance first; asleep, or without supply already, none
   pub pauses : (s : Sensor) (now : Time) → s.sampling.asleep ≡ false → stage (pause s now) ≡ caught_up s now
   pub pauses_asleep : (s : Sensor) (now : Time) → s.sampling.asleep ≡ true → stage (pause s now) ≡ stage s
@@ -87,20 +87,20 @@ module _ (c : Acquisition) (input : Input) (needs : List ℕ) where
 
 -- ---- settings
 
-module _ (s : Sensor) (x y z : ℤ) (now : Time) where
-  set_moves : is_off s ≡ false → s.sampling.asleep ≡ false → stage (set_input s x y z now) ≡ A.all_turned (stage s) now (x_of s) (y_of s) (z_of s) x y z
+module _ (s : Sensor) (input : Acceleration) (now : Time) where
+  set_moves : is_off s ≡ false → s.sampling.asleep ≡ false → stage (set_input s input now) ≡ A.all_turned (stage s) now s.kept.input.acceleration input
   unfolding turned Stage.turned
   set_moves on awake = rw (on, awake)
 
-  asleep_set : s.sampling.asleep ≡ true → stage (set_input s x y z now) ≡ stage s
+  asleep_set : s.sampling.asleep ≡ true → stage (set_input s input now) ≡ stage s
   unfolding turned Stage.turned
   asleep_set asleep = by (is_off s)
     where
-      by : (b : Bool) → (cond b s.sampling (Stage.turned s.sampling now s.kept.input x y z)).analog ≡ stage s
+      by : (b : Bool) → (cond b s.sampling (Stage.turned s.sampling now s.kept.input.acceleration input)).analog ≡ stage s
       by true = refl
       by false = rw asleep
 
-  off_set : is_off s ≡ true → stage (set_input s x y z now) ≡ stage s
+  off_set : is_off s ≡ true → stage (set_input s input now) ≡ stage s
   unfolding turned
   off_set off = rw off
 

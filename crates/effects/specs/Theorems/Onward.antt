@@ -6,6 +6,7 @@ use Rattle.laws.specs.Iterate.{iterate}
 use Rattle.time.specs.declared.Time.{Time}
 use Rattle.time.specs.Time.{ticks}
 use Rattle.time.specs.Clock as C
+use Rattle.analog.specs.Axis.{Acceleration}
 use Rattle.analog.specs.Axis as A
 use Rattle.deadlines.specs.Deadlines.{is_at}
 use Rattle.control.specs.Lengths.{needs}
@@ -43,13 +44,13 @@ module _ (now : Time) where
   edges_upto : (s : Sensor) (inclusive : Bool) → Onward now s (after_edges s (edges_until s now inclusive))
   edges_upto s inclusive = record { onward = λ h. (samples_stand now s.kept.input needs (edges_until s now inclusive) (acquisition s) (edges_counted now s.sampling.clock inclusive) h).upto }
 
-  input_upto : (s : Sensor) (x y z : ℤ) → Upto now s.sampling.analog → Upto now (S.turned s x y z now).analog
+  input_upto : (s : Sensor) (input : Acceleration) → Upto now s.sampling.analog → Upto now (S.turned s input now).analog
   unfolding S.turned
-  input_upto s x y z h = go (is_off s)
+  input_upto s input h = go (is_off s)
     where
-      go : (b : Bool) → Upto now (cond b s.sampling (Stage.turned s.sampling now s.kept.input x y z)).analog
+      go : (b : Bool) → Upto now (cond b s.sampling (Stage.turned s.sampling now s.kept.input.acceleration input)).analog
       go true = h
-      go false = turned_upto now s.sampling s.kept.input x y z h
+      go false = turned_upto now s.sampling s.kept.input.acceleration input h
 
   -- acquisition and a warm return resume, a pause and the loss of supply hold, a soft reset and a cold return rest, a setting turns; nothing else moves the stage
   pub onward : Steps now (Onward now)
@@ -99,7 +100,7 @@ module _ (now : Time) where
     meets_zero = λ s o. record { onward = λ h. h };
     comes_back = λ s o. record { onward = λ h. h };
     powers_on = λ s o. record { onward = λ h. rest_upto now };
-    sets = λ s x y z. record { onward = λ h. input_upto s x y z h };
+    sets = λ s input. record { onward = λ h. input_upto s input h };
     follows = λ s lines. record { onward = λ h. h };
     warms = λ s millicelsius. record { onward = λ h. h };
   }

@@ -12,8 +12,9 @@ use Rattle.time.specs.Time.{ticks, time, next_unit}
 use Rattle.time.specs.Clock as C
 use Rattle.time.specs.Theorems.Laws.{ticks_time}
 use Rattle.time.specs.Theorems.Edges.{within}
+use Rattle.analog.specs.Axis.{Acceleration}
 use Rattle.analog.specs.declared.types.Axis.{Axis}
-use Rattle.analog.specs.declared.types.Analog.{Analog}
+use Rattle.analog.specs.Axis.{Analog}
 use Rattle.analog.specs.Axis as A
 use Rattle.analog.proofs.Theorems.Settles.{advanced_at}
 use Rattle.sampling.specs.declared.types.Input.{Input}
@@ -69,16 +70,16 @@ module _ (now : Time) where
   pub resumed_upto : (g : Analog) → Upto now (A.all_resumed g now)
   resumed_upto g = record { x = le_refl (ticks now); y = le_refl (ticks now); z = le_refl (ticks now) }
 
-  all_held_upto : (g : Analog) (x y z : ℤ) → Upto now (A.held g now x y z)
+  all_held_upto : (g : Analog) (input : Acceleration) → Upto now (A.held g now input)
   unfolding A.held
-  all_held_upto g x y z =
+  all_held_upto g input =
       let l = le_refl (ticks now) in
-      record { x = advanced_by g.x now x l; y = advanced_by g.y now y l; z = advanced_by g.z now z l }
+      record { x = advanced_by g.x now input.x l; y = advanced_by g.y now input.y l; z = advanced_by g.z now input.z l }
 
-  all_turned_upto : (g : Analog) (x y z new_x new_y new_z : ℤ) → Upto now g → Upto now (A.all_turned g now x y z new_x new_y new_z)
+  all_turned_upto : (g : Analog) (old new : Acceleration) → Upto now g → Upto now (A.all_turned g now old new)
   unfolding A.all_turned
-  all_turned_upto g x y z new_x new_y new_z h =
-      record { x = turned_by g.x x new_x h.x; y = turned_by g.y y new_y h.y; z = turned_by g.z z new_z h.z }
+  all_turned_upto g old new h =
+      record { x = turned_by g.x old.x new.x h.x; y = turned_by g.y old.y new.y h.y; z = turned_by g.z old.z new.z h.z }
 
   with_axis_upto : (g : Analog) (axis : ℕ) (a : Axis) → Upto now g → By a → Upto now (A.with_axis g axis a)
   unfolding A.with_axis
@@ -94,11 +95,11 @@ module _ (now : Time) where
 
   pub held_upto : (g : Sampling) (input : Input) → Upto now g.analog → Upto now (Stage.held g now input).analog
   unfolding Stage.held
-  held_upto g input h = either g _ g.asleep h (all_held_upto g.analog input.x input.y input.z)
+  held_upto g input h = either g _ g.asleep h (all_held_upto g.analog input.acceleration)
 
-  pub turned_upto : (g : Sampling) (input : Input) (x y z : ℤ) → Upto now g.analog → Upto now (Stage.turned g now input x y z).analog
+  pub turned_upto : (g : Sampling) (old new : Acceleration) → Upto now g.analog → Upto now (Stage.turned g now old new).analog
   unfolding Stage.turned
-  turned_upto g input x y z h = either g _ g.asleep h (all_turned_upto g.analog input.x input.y input.z x y z h)
+  turned_upto g old new h = either g _ g.asleep h (all_turned_upto g.analog old new h)
 
   -- ---- sample phases
 

@@ -8,7 +8,7 @@ use Rattle.book.specs.Lists.{FitsTimed, Fits, Fractions}
 use Rattle.printed.specs.Inputs.{AllFit}
 
 timed_fraction : (now : Time) (t : Timed) → TimeFits now → FitsTimed now t
-timed_fraction now (Timed.Accelerations x y z) f = tt
+timed_fraction now (Timed.Accelerations input) f = tt
 timed_fraction now (Timed.Supply rail) f = tt
 timed_fraction now Timed.Due f = tt
 timed_fraction now (Timed.Rising mosi) f = f.1
