@@ -102,7 +102,7 @@ four_wire s = SPI4 (at s.registers operation)
 -- a stored write runs
 unfoldable pub runs : Operation → Bool
 runs None = false
-runs (Some (w, a, v)) = true
+runs (Some w) = true
 
 abbrev pub is_writing : Sensor → Bool
 is_writing s = runs s.writing

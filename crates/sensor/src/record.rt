@@ -12,19 +12,16 @@ use registers::fields::{CONTROL, OPERATION, SPI4, WAKE_UP, has};
 pub fn byte_at(registers: [u8; 62], address: u8) -> u8
     ensures { result ≡ Map.at registers address }
 {
-    if address < 62 {
-        return registers[address as usize];
-    }
-    0
+    registers.get(usize::from(address)).copied().unwrap_or(0)
 }
 
-// The registers with one byte replaced; there is none from 3e on.
+// The registers with one byte replaced; there is none from 3e on (by a bound: with `get_mut` the proof did not close).
 fn with_byte(registers: [u8; 62], address: u8, value: u8) -> [u8; 62]
     ensures { result ≡ Rec.with_byte registers address value }
 {
     let mut r = registers;
     if address < 62 {
-        r[address as usize] = value;
+        r[usize::from(address)] = value;
     }
     r
 }
@@ -65,6 +62,7 @@ impl Sensor {
         self.supply.unpowered_since.is_some()
     }
 
+    // This and the next two read one wait each: a function over `Wait` would match it back to its field, and say no more.
     #[tactic(auto, unfolding(deadlines::specs::Deadlines::is_set))]
     pub fn serial_not_ready(self) -> bool
         ensures { result ≡ Rec.serial_not_ready self }
