@@ -26,14 +26,13 @@ pub fn cell_byte(image: [u8; 19], address: u8) -> u8
 }
 
 #[tactic(auto, unfolding(crate::specs::Image::with_cell, registers::specs::Access::stored))]
-pub fn with_cell(image: [u8; 19], address: u8, value: u8) -> [u8; 19]
+pub fn with_cell(mut image: [u8; 19], address: u8, value: u8) -> [u8; 19]
     ensures { result ≡ Im.with_cell image address value }
 {
-    let mut changed = image;
     if stored(address) {
-        changed[usize::from(address - 0x2b)] = value;
+        image[usize::from(address - 0x2b)] = value;
     }
-    changed
+    image
 }
 
 impl StoredWrite {
@@ -48,12 +47,11 @@ impl StoredWrite {
 }
 
 // The image in the registers 0b..1d.
-fn image_copied(registers: [u8; 62], image: [u8; 19]) -> [u8; 62]
+fn image_copied(mut registers: [u8; 62], image: [u8; 19]) -> [u8; 62]
     ensures { result ≡ Im.image_copied registers image }
 {
-    let mut r = registers;
-    r[11..30].copy_from_slice(&image);
-    r
+    registers[11..30].copy_from_slice(&image);
+    registers
 }
 
 #[tactic(auto, unfolding(crate::specs::Image::shadowing))]
@@ -150,11 +148,9 @@ pub fn powered(now: Time, image: [u8; 19], kept: Kept) -> Sensor
     ensures { result ≡ Im.powered now image kept }
 {
     let ready = now.plus(Duration::from_millis(3));
-    let s = blank(now, image, kept).copy_image();
-    Sensor {
-        deadlines: s.deadlines.with(Wait::SerialReady, Some(ready)),
-        ..s
-    }
+    let mut s = blank(now, image, kept).copy_image();
+    s.deadlines.serial_ready = Some(ready);
+    s
 }
 
 impl Sensor {

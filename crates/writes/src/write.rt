@@ -146,17 +146,6 @@ fn register_effect(sensor: Sensor, w: WriteKind, address: u8, value: u8, now: Ti
     }
 }
 
-fn begun(mut sensor: Sensor, address: u8, value: u8, now: Time) -> Sensor
-    ensures { result ≡ W.begun sensor address value now }
-{
-    sensor.writing = Some(StoredWrite {
-        cycle: WriteCycle::start(now),
-        address,
-        value,
-    });
-    sensor
-}
-
 // A stored write begins; any other is followed by automatic mode.
 #[tactic(auto, unfolding(crate::specs::Write::write_effect))]
 pub fn write_register(sensor: Sensor, address: u8, value: u8, now: Time) -> Sensor
@@ -164,7 +153,14 @@ pub fn write_register(sensor: Sensor, address: u8, value: u8, now: Time) -> Sens
 {
     match kind_of_write(address, value, sensor.gate(), sensor.is_writing()) {
         WriteKind::Ignored => sensor,
-        WriteKind::Stored => begun(sensor, address, value, now),
+        WriteKind::Stored => Sensor {
+            writing: Some(StoredWrite {
+                cycle: WriteCycle::start(now),
+                address,
+                value,
+            }),
+            ..sensor
+        },
         w => {
             let s = register_effect(sensor, w, address, value, now);
             s.automatic_control(now, sensor.criterion(), false)
