@@ -1,5 +1,5 @@
 -- Every stored write happens over I2C: START, 70 hex and four pairs of register and value at the start's time.
-use Rattle.sensor.specs.Operation.{Operation, stored_write}
+use Rattle.sensor.specs.Operation.{stored_write}
 use Rattle.std.specs.Prelude.{ℕ, ◌^◌, ◌<◌, ◌≡◌, refl, Bool, true, false, Option, Some, None}
 use Rattle.std.proofs.Common.{arith, sym, ap, subst, ◌∙◌, lit<}
 use mathlib.Core.List.{List, [], ◌∷◌, ◌++◌}

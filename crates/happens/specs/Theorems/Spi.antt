@@ -1,7 +1,7 @@
 -- Every stored write happens over SPI: select, and four write frames at the start's time.
-use Rattle.sensor.specs.Operation.{Operation, stored_write}
+use Rattle.sensor.specs.Operation.{stored_write}
 use Rattle.std.specs.Prelude.{ℕ, ◌^◌, ◌<◌, ◌≡◌, Bool, true, false, Option, Some, None}
-use Rattle.std.proofs.Common.{arith, sym, ap, subst, ◌∙◌, lit<}
+use Rattle.std.proofs.Common.{arith, sym, subst, ◌∙◌, lit<}
 use Rattle.std.proofs.Math.Path.{refl}
 use mathlib.Core.List.{List, [], ◌∷◌, ◌++◌}
 use Rattle.laws.specs.Bytes.{sent_bit, seven_bits}

@@ -1,5 +1,5 @@
 -- The four register writes: automatic mode off, ee_w set, a stored write begun, and sleep.
-use Rattle.sensor.specs.Operation.{Operation, stored_write}
+use Rattle.sensor.specs.Operation.{stored_write}
 use Rattle.std.specs.Prelude.{ℕ, ◌<◌, ◌≤◌, ◌≡◌, Bool, List, length, set, Some, None}
 use Rattle.std.proofs.Common.{arith, sym, ◌∙◌, lit<, length-set, get_or-set_same, get_or-set_other}
 use Rattle.std.proofs.Math.Path.{refl, ap, subst}
