@@ -47,12 +47,12 @@ kept_of k = k.kept
 ended_kept : (op : Operation) (k : Core) (now : Time) → (ended op k now).kept ≡ k.kept
 unfolding ended
 ended_kept None k now = refl
-ended_kept (Some (w, a, v)) k now = either kept_of (same (Cycle.deadline w) now) _ _ _ refl refl
+ended_kept (Some w) k now = either kept_of (same (Cycle.deadline w.cycle) now) _ _ _ refl refl
 
 cut_kept : (op : Operation) (k : Core) (now : Time) → (cut_to op k now).kept ≡ k.kept
 unfolding cut_to
 cut_kept None k now = refl
-cut_kept (Some (w, a, v)) k now = refl
+cut_kept (Some w) k now = refl
 
 supply_kept : (k : Core) (rail : ℕ) (now : Time) → (supply_to k rail now).kept ≡ k.kept
 supply_kept k rail now =

@@ -8,13 +8,12 @@ use mathlib.Core.List.{List}
 use lib.Dec.{ltb, eqb}
 use Rattle.time.specs.declared.Time.{Time}
 use Rattle.time.specs.Time.{same}
-use Rattle.nv.specs.Cell.{cell_number}
 use Rattle.nv.specs.Cycle as Cycle
 use Rattle.deadlines.specs.Deadlines.{is_set}
 use Rattle.sensor.specs.declared.types.Supply.{Supply}
 use Rattle.sensor.specs.declared.types.Sensor.{Sensor}
 use Rattle.sensor.specs.Record.{is_off}
-use Rattle.sensor.specs.Image.{cell_byte, with_cell}
+use Rattle.sensor.specs.Image.{byte_at, with_cell}
 use Rattle.sensor.specs.Mode.{criterion}
 use Rattle.sensor.specs.Select.{may_select}
 use Rattle.waits.specs.Supply.{without_report, cut, held, power_off, zero_while_off, warm_return, cold_return, returned, supply_low, supply_ok, set_supply}
@@ -37,14 +36,14 @@ off k = is_set k.supply.unpowered_since
 
 unfoldable pub ended : Operation → Core → Time → Core
 ended None k now = k
-ended (Some (w, a, v)) k now = cond (same (Cycle.deadline w) now) (over k (with_cell k.cells a v)) k
+ended (Some w) k now = cond (same (Cycle.deadline w.cycle) now) (over k (with_cell k.cells w.address w.value)) k
 
 ended_is : (op : Operation) (s : Sensor) (now : Time) → core (write_ended op s now).sensor ≡ ended op (core s) now
 unfolding write_ended ended
 ended_is None s now = refl
-ended_is (Some (w, a, v)) s now = go (same (Cycle.deadline w) now)
+ended_is (Some w) s now = go (same (Cycle.deadline w.cycle) now)
   where
-    go : (b : Bool) → core (cond b (completed s a v) (without_report s)).sensor ≡ cond b (over (core s) (with_cell s.nonvolatile a v)) (core s)
+    go : (b : Bool) → core (cond b (completed s w.address w.value) (without_report s)).sensor ≡ cond b (over (core s) (with_cell s.nonvolatile w.address w.value)) (core s)
     go true = refl
     go false = refl
 
@@ -59,7 +58,7 @@ due_is s now =
 
 unfoldable pub cut_to : Operation → Core → Time → Core
 cut_to None k now = k
-cut_to (Some (w, a, v)) k now = over k (with_cell k.cells a (Cycle.byte_at w (cell_byte k.cells a) v (cell_number a) now))
+cut_to (Some w) k now = over k (with_cell k.cells w.address (byte_at w k.cells now))
 
 abbrev pub lost : Core → Time → Bool → Core
 lost k now cold = supplied_by (with_selected (cut_to k.writing k now) false) (record { unpowered_since = Some now; cold = cold })
@@ -82,7 +81,7 @@ supply_to k rail now =
 cut_is : (op : Operation) (s : Sensor) (now : Time) → core (cut op s now).sensor ≡ cut_to op (core s) now
 unfolding cut cut_to
 cut_is None s now = refl
-cut_is (Some (w, a, v)) s now = refl
+cut_is (Some w) s now = refl
 
 lost_is : (s : Sensor) (now : Time) (cold : Bool) → core (power_off s now cold).sensor ≡ lost (core s) now cold
 unfolding may_select

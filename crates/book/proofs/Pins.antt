@@ -1,13 +1,12 @@
 -- A pin call changes the running write alone of the five parts, and as the book says.
 use Rattle.std.specs.Prelude.{Option, Some, None}
-use Rattle.sensor.specs.Operation.{Operation}
+use Rattle.sensor.specs.Operation.{Operation, stored_write}
 use Prim.Native.Nat.{ℕ, ◌%◌}
 use mathlib.Core.Path.{◌≡◌, refl, sym, ap, subst, ◌∙◌}
 use mathlib.Core.Bool.{Bool, true, false, cond, not, ◌&&◌}
 use lib.Dec.{ltb}
 use native.Mathlib.Omega.{arith}
 use Rattle.time.specs.declared.Time.{Time}
-use Rattle.nv.specs.Cycle as Cycle
 use Rattle.laws.specs.Bytes.{shifted_in}
 use Rattle.i2c.specs.declared.types.State.{State}
 use Rattle.i2c.specs.declared.types.Edge.{Edge}
@@ -36,7 +35,7 @@ begun_writing w s now = cond (accepted_write w s (is_writing s)) (operation (of_
 -- ---- a register write
 
 write_effect_keeps : (w : WriteKind) (s : Sensor) (address value : ℕ) (now : Time)
-    → Keeps (with_writing s (cond (is_stored w) (Some (Cycle.start now, address, value)) s.writing)) (write_effect w s address value now)
+    → Keeps (with_writing s (cond (is_stored w) (Some (stored_write now address value)) s.writing)) (write_effect w s address value now)
 unfolding write_effect is_stored
 write_effect_keeps WriteKind.Ignored s address value now = record { same = refl }
 write_effect_keeps WriteKind.Stored s address value now = record { same = refl }
@@ -51,7 +50,7 @@ register_keeps : (s : Sensor) (address value : ℕ) (now : Time)
     → Keeps (with_writing s (begun_writing (Some (address, value)) s now)) (write_register s address value now)
 unfolding accepted_write of_write operation
 register_keeps s address value now =
-    subst (λ (b : Bool). Keeps (with_writing s (cond b (Some (Cycle.start now, address, value)) s.writing)) (write_register s address value now))
+    subst (λ (b : Bool). Keeps (with_writing s (cond b (Some (stored_write now address value)) s.writing)) (write_register s address value now))
     (stored_begins address value (gate s) (is_writing s))
     (write_effect_keeps (write_kind s address value) s address value now)
 

@@ -18,9 +18,9 @@ use Rattle.time.specs.Time.{ticks, same}
 use Rattle.time.specs.Theorems.Laws.{ticks_time_below}
 use Rattle.nv.specs.Cell.{write_length}
 use Rattle.nv.specs.Cycle as Cycle
-use Rattle.nv.specs.declared.WriteCycle.{WriteCycle}
 use Rattle.deadlines.specs.Deadlines.{is_at, is_by, earliest}
 use Rattle.deadlines.proofs.Theorems.Earliest.{earliest_by_each}
+use Rattle.sensor.specs.declared.types.StoredWrite.{StoredWrite}
 use Rattle.sensor.specs.declared.types.Sensor.{Sensor}
 use Rattle.sensor.specs.Record.{with_writing, is_off, automatic}
 use Rattle.sensor.specs.Record as Record
@@ -41,7 +41,7 @@ use Rattle.book.proofs.Parts.{off}
 
 unfoldable pub running_of : Operation → Option Running
 running_of None = None
-running_of (Some (w, a, v)) = Some (record { address = a; wanted = v; began = w.started })
+running_of (Some w) = Some (record { address = w.address; wanted = w.value; began = w.cycle.started })
 
 abbrev pub read : Bma150 → Book
 read s = book s.sensor.nonvolatile (running_of s.sensor.writing) (struck s)
@@ -49,7 +49,7 @@ read s = book s.sensor.nonvolatile (running_of s.sensor.writing) (struck s)
 operation_running : (op : Operation) → operation (running_of op) ≡ op
 unfolding operation running_of
 operation_running None = refl
-operation_running (Some (w, a, v)) = refl
+operation_running (Some w) = refl
 
 pub running_operation : (r : Option Running) → running_of (operation r) ≡ r
 unfolding operation running_of
@@ -59,16 +59,19 @@ running_operation (Some w) = refl
 pub runs_running : (op : Operation) → B.runs (running_of op) ≡ Record.runs op
 unfolding B.runs Record.runs running_of
 runs_running None = refl
-runs_running (Some (w, a, v)) = refl
+runs_running (Some w) = refl
 
 pub filled_read : (s : Bma150) → filled (read s) ≡ s
 filled_read s = ap (λ (o : Operation). record { sensor = with_writing s.sensor (o); last = s.last }) (operation_running s.sensor.writing)
 
 -- ---- what holds of every sensor of a list: a write runs only with supply and its end does not wrap; with supply nothing cold is due; without it SPI is deselected
 
+abbrev end_of : StoredWrite → ℕ
+end_of w = ticks w.cycle.started + write_length
+
 abbrev pub Fine : Operation → Bool → Type 0
 Fine None out = Unit {0}
-Fine (Some (w, a, v)) out = (out ≡ false) × (ticks w.started + write_length < 2 ^ 128)
+Fine (Some w) out = (out ≡ false) × (end_of w < 2 ^ 128)
 
 pub record Sound (k : Core) : Type 0 where
   pub fine : Fine k.writing (off k)
@@ -77,24 +80,21 @@ pub record Sound (k : Core) : Type 0 where
 
 -- ---- next due is at or before the end of a running write
 
-abbrev end_of : WriteCycle → ℕ
-end_of w = ticks w.started + write_length
-
-ends_by : (s : Sensor) (w : WriteCycle) (a v : ℕ) → s.writing ≡ Some (w, a, v) → is_off s ≡ false
-    → is_by (interaction_deadline s) (Cycle.deadline w) ≡ true
+ends_by : (s : Sensor) (w : StoredWrite) → s.writing ≡ Some w → is_off s ≡ false
+    → is_by (interaction_deadline s) (Cycle.deadline w.cycle) ≡ true
 unfolding next_deadline write_end
-ends_by s w a v e o = go (is_off s) (earliest s.deadlines (sample_due s (automatic s)) (write_end s.writing)) o p
+ends_by s w e o = go (is_off s) (earliest s.deadlines (sample_due s (automatic s)) (write_end s.writing)) o p
   where
-    go : (b : Bool) (d : Option Time) → b ≡ false → is_by d (Cycle.deadline w) ≡ true → is_by (cond b None d) (Cycle.deadline w) ≡ true
+    go : (b : Bool) (d : Option Time) → b ≡ false → is_by d (Cycle.deadline w.cycle) ≡ true → is_by (cond b None d) (Cycle.deadline w.cycle) ≡ true
     go true d q r = cc
     go false d q r = r
 
-    m : Memᴰ (Some (Cycle.deadline w)) (s.deadlines.serial_ready ∷ sample_due s (automatic s) ∷ s.deadlines.wake ∷ s.deadlines.pause ∷ s.deadlines.quiet ∷ s.deadlines.irq_hold ∷ Some (Cycle.deadline w) ∷ s.deadlines.image ∷ [])
+    m : Memᴰ (Some (Cycle.deadline w.cycle)) (s.deadlines.serial_ready ∷ sample_due s (automatic s) ∷ s.deadlines.wake ∷ s.deadlines.pause ∷ s.deadlines.quiet ∷ s.deadlines.irq_hold ∷ Some (Cycle.deadline w.cycle) ∷ s.deadlines.image ∷ [])
     m = Memᴰ.tail (Memᴰ.tail (Memᴰ.tail (Memᴰ.tail (Memᴰ.tail (Memᴰ.tail (Memᴰ.head refl))))))
 
-    p : is_by (earliest s.deadlines (sample_due s (automatic s)) (write_end s.writing)) (Cycle.deadline w) ≡ true
-    p = ap (λ (o : Operation). is_by (earliest s.deadlines (sample_due s (automatic s)) (write_end o)) (Cycle.deadline w)) e
-        ∙ earliest_by_each s.deadlines (sample_due s (automatic s)) (Some (Cycle.deadline w)) (Cycle.deadline w) m
+    p : is_by (earliest s.deadlines (sample_due s (automatic s)) (write_end s.writing)) (Cycle.deadline w.cycle) ≡ true
+    p = ap (λ (o : Operation). is_by (earliest s.deadlines (sample_due s (automatic s)) (write_end o)) (Cycle.deadline w.cycle)) e
+        ∙ earliest_by_each s.deadlines (sample_due s (automatic s)) (Some (Cycle.deadline w.cycle)) (Cycle.deadline w.cycle) m
 
 lt_le : (n d t e : ℕ) → d ≤ t → n < d → t ≡ e → n < e
 lt_le n d t e p q r = omega arith
@@ -121,10 +121,10 @@ not_over s h now d = go s.sensor.writing refl
   where
     go : (op : Operation) → s.sensor.writing ≡ op → completing (running_of op) (read s) now ≡ read s
     go None e = refl
-    go (Some (w, a, v)) e =
+    go (Some w) e =
         let f : (is_off s.sensor ≡ false) × (end_of w < 2 ^ 128) = subst (λ (o : Operation). Fine o (is_off s.sensor)) e h.fine in
-        let l : ticks now < end_of w = before (interaction_deadline s.sensor) (Cycle.deadline w) now (end_of w) (ends_by s.sensor w a v e f.0) d (ticks_time_below (end_of w) f.1) in
-        ap (λ (b : Bool). cond b (closed (read s) (record { address = a; wanted = v; began = w.started }) v) (read s)) (lt-leb (end_of w) (ticks now) l)
+        let l : ticks now < end_of w = before (interaction_deadline s.sensor) (Cycle.deadline w.cycle) now (end_of w) (ends_by s.sensor w e f.0) d (ticks_time_below (end_of w) f.1) in
+        ap (λ (b : Bool). cond b (closed (read s) (record { address = w.address; wanted = w.value; began = w.cycle.started }) w.value) (read s)) (lt-leb (end_of w) (ticks now) l)
 
 -- a due call completes it in the book exactly where it ends at this moment
 last_moment : (e n : ℕ) → n ≤ e → leb e n ≡ eqb e n
@@ -139,12 +139,12 @@ last_moment e n p = go (eqb e n) refl
         not_le false r = refl
 
 pub over_now : (s : Sensor) → Sound (core s) → (now : Time) → is_at (interaction_deadline s) now ≡ true
-    → (w : WriteCycle) (a v : ℕ) → s.writing ≡ Some (w, a, v)
-    → leb (ticks w.started + write_length) (ticks now) ≡ same (Cycle.deadline w) now
-over_now s h now d w a v e =
+    → (w : StoredWrite) → s.writing ≡ Some w
+    → leb (ticks w.cycle.started + write_length) (ticks now) ≡ same (Cycle.deadline w.cycle) now
+over_now s h now d w e =
     let f : (is_off s ≡ false) × (end_of w < 2 ^ 128) = subst (λ (o : Operation). Fine o (is_off s)) e h.fine in
-    let t : ticks (Cycle.deadline w) ≡ end_of w = ticks_time_below (end_of w) f.1 in
-    let l : ticks now ≤ end_of w = until (interaction_deadline s) (Cycle.deadline w) now (end_of w) (ends_by s w a v e f.0) d t in
+    let t : ticks (Cycle.deadline w.cycle) ≡ end_of w = ticks_time_below (end_of w) f.1 in
+    let l : ticks now ≤ end_of w = until (interaction_deadline s) (Cycle.deadline w.cycle) now (end_of w) (ends_by s w e f.0) d t in
     last_moment (end_of w) (ticks now) l ∙ ap (λ (n : ℕ). eqb n (ticks now)) (sym t)
 
 -- a write that begins at an accepted time ends without a wrap

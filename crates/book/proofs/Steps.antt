@@ -109,11 +109,11 @@ module _ (b : Bma150) (h : Sound (core b.sensor)) where
     where
       go : (op : Operation) → s.writing ≡ op → Ended (ended op (core s) now) (completing (running_of op) (read b) now)
       go None e = record { cells = refl; running = refl; sound = h; supply = refl; kept = refl }
-      go (Some (w, a, v)) e =
-          subst (λ (x : Bool). Ended (ended (Some (w, a, v)) (core s) now) (cond x (closed (read b) (record { address = a; wanted = v; began = w.started }) v) (read b)))
-          (sym (over_now s h now d w a v e)) (chosen (same (Cycle.deadline w) now))
+      go (Some w) e =
+          subst (λ (x : Bool). Ended (ended (Some w) (core s) now) (cond x (closed (read b) (record { address = w.address; wanted = w.value; began = w.cycle.started }) w.value) (read b)))
+          (sym (over_now s h now d w e)) (chosen (same (Cycle.deadline w.cycle) now))
         where
-          chosen : (x : Bool) → Ended (cond x (over (core s) (with_cell s.nonvolatile a v)) (core s)) (cond x (closed (read b) (record { address = a; wanted = v; began = w.started }) v) (read b))
+          chosen : (x : Bool) → Ended (cond x (over (core s) (with_cell s.nonvolatile w.address w.value)) (core s)) (cond x (closed (read b) (record { address = w.address; wanted = w.value; began = w.cycle.started }) w.value) (read b))
           chosen true = record { cells = refl; running = refl; sound = record { fine = tt; warm = h.warm; deaf = h.deaf }; supply = refl; kept = refl }
           chosen false = record { cells = refl; running = refl; sound = h; supply = refl; kept = refl }
 
@@ -147,7 +147,7 @@ module _ (b : Bma150) (h : Sound (core b.sensor)) where
     where
       go : (op : Operation) → Fine op (is_off s) → op ≡ None
       go None f = refl
-      go (Some (w, a, v)) f = let g : is_off s ≡ false = f.0 in cc
+      go (Some w) f = let g : is_off s ≡ false = f.0 in cc
 
   -- a write that is cut
   pub record Cut (l : Core) (m : Book) : Type 0 where
@@ -162,7 +162,7 @@ module _ (b : Bma150) (h : Sound (core b.sensor)) where
     where
       go : (op : Operation) → s.writing ≡ op → Cut (cut_to op (core s) now) (cutting (running_of op) (read b) now)
       go None e = record { cells = refl; running = refl; none_runs = e; kept = refl }
-      go (Some (w, a, v)) e = record { cells = refl; running = refl; none_runs = refl; kept = refl }
+      go (Some w) e = record { cells = refl; running = refl; none_runs = refl; kept = refl }
 
   uncut : (now : Time) → is_off s ≡ true → cutting (running_of s.writing) (read b) now ≡ read b
   unfolding cutting running_of

@@ -1,11 +1,10 @@
 -- The write book (01, "Write book"). It never reads the stored bytes or the running write of the definitions' record.
-use Rattle.sensor.specs.Operation.{Operation}
+use Rattle.sensor.specs.Operation.{Operation, stored_write}
 use Rattle.std.specs.Prelude.{ℕ, ◌+◌, ◌-◌, Bool, true, false, List, [], ◌∷◌, leb, ltb, replicate, if◌then◌else◌, Option, Some, None}
 use Rattle.laws.specs.Notation.{Byte}
 use Rattle.time.specs.declared.Time.{Time}
 use Rattle.time.specs.Time.{ticks}
 use Rattle.nv.specs.Cell.{write_length, cell_number, byte}
-use Rattle.nv.specs.Cycle as Cycle
 use Rattle.registers.specs.Access.{begins}
 use Rattle.calls.specs.declared.types.Call.{Call}
 use Rattle.sensor.specs.declared.types.Sensor.{Sensor}
@@ -44,7 +43,7 @@ opened b = book b.image None (struck (started b))
 
 unfoldable pub operation : Option Running → Operation
 operation None = None
-operation (Some w) = Some (Cycle.start w.began, w.address, w.wanted)
+operation (Some w) = Some (stored_write w.began w.address w.wanted)
 
 abbrev pub filled : Book → Bma150
 filled k = record { sensor = with_writing (with_nonvolatile k.rest.sensor k.cells) (operation k.running); last = k.rest.last }

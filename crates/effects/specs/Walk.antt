@@ -3,7 +3,6 @@ use Rattle.std.specs.Prelude.{ℕ, ◌≡◌, Bool, true, false, ℤ, Option, So
 use Rattle.time.specs.declared.Time.{Time}
 use Rattle.time.specs.declared.Duration.{Duration}
 use Rattle.time.specs.Time.{plus, from_micros}
-use Rattle.nv.specs.declared.WriteCycle.{WriteCycle}
 use Rattle.interrupts.specs.State as I
 use Rattle.i2c.specs.declared.types.Levels.{Levels}
 use Rattle.i2c.specs.declared.types.Edge.{Edge}
@@ -18,16 +17,17 @@ use Rattle.registers.specs.Map.{control, operation}
 use Rattle.sampling.specs.Phase.{with_clock}
 use Rattle.time.specs.Clock as Clock
 use Rattle.analog.specs.Axis.{Acceleration}
+use Rattle.sensor.specs.declared.types.StoredWrite.{StoredWrite}
 use Rattle.sensor.specs.declared.types.Sensor.{Sensor}
 use Rattle.sensor.specs.Record.{with_frame, with_i2c, with_reads, with_sampling, with_deadlines, with_interrupts, with_supply, with_lines, put, is_quiet, four_wire, is_off, with_cycles, with_ready}
-use Rattle.sensor.specs.Image.{shadowing, copy_image, power_on}
+use Rattle.sensor.specs.Image.{byte_at, shadowing, copy_image, power_on}
 use Rattle.sensor.specs.Mode.{start_acquisition, pause, automatic_off, soft_reset}
 use Rattle.sensor.specs.RegisterReads.{prepared, counts_as_read, acceleration_read}
 use Rattle.sensor.specs.Select.{reselected}
 use Rattle.writes.specs.Write.{tested, measurement_written, durations_written, begun, write_kind}
 use Rattle.samples.specs.Samples.{after_edges, edges_until, samples_on_demand}
 use Rattle.serial.specs.I2cPins.{ones_for}
-use Rattle.waits.specs.Supply.{write_over, torn, held, outage, set_input, set_temperature}
+use Rattle.waits.specs.Supply.{write_over, held, outage, set_input, set_temperature}
 use Rattle.waits.specs.Due.{waits_ended, image_loaded, sample_due_now}
 
 pub record Steps (now : Time) (R : Sensor → Sensor → Type 0) : Type 0 where
@@ -71,13 +71,13 @@ pub record Steps (now : Time) (R : Sensor → Sensor → Type 0) : Type 0 where
   pub launches : (s : Sensor) (byte : ℕ) → R s (with_i2c s (E.launched s.i2c byte))
   -- ---- due moments
   pub waits_end : (s : Sensor) → R s (waits_ended s now)
-  pub completes : (s : Sensor) (w : WriteCycle) (address value : ℕ) → s.writing ≡ Some (w, address, value) → R s (write_over s address value)
+  pub completes : (s : Sensor) (w : StoredWrite) → s.writing ≡ Some w → R s (write_over s w.address w.value)
   pub copies : (s : Sensor) → R s (copy_image s)
   pub loads : (s : Sensor) → R s (image_loaded s)
   pub wakes : (s : Sensor) → R s (with_sampling (with_deadlines s (with_wake s.deadlines None)) (with_clock s.sampling (Clock.started now)))
   -- ---- supply, acceleration, temperature and what is kept of the lines
   pub stops : (s : Sensor) → R s (held s now)
-  pub cuts : (s : Sensor) (w : WriteCycle) (address value : ℕ) → s.writing ≡ Some (w, address, value) → R s (write_over s address (torn w s address value now))
+  pub cuts : (s : Sensor) (w : StoredWrite) → s.writing ≡ Some w → R s (write_over s w.address (byte_at w s.nonvolatile now))
   pub goes_off : (s : Sensor) (cold : Bool) → R s (with_supply s (record { unpowered_since = Some now; cold = cold }))
   pub meets_zero : (s : Sensor) → is_off s ≡ true → R s (with_supply s (record { unpowered_since = s.supply.unpowered_since; cold = true }))
   pub comes_back : (s : Sensor) → is_off s ≡ true → R s (with_supply (with_deadlines s (shifted s.deadlines (outage s.supply.unpowered_since now))) (record { unpowered_since = None; cold = s.supply.cold }))

@@ -3,7 +3,7 @@ use Rattle.std.specs.Prelude.{ℕ, ◌+◌, ◌-◌, ◌^◌, ◌<◌, ◌≤◌
 use Rattle.time.specs.declared.Time.{Time}
 use Rattle.time.specs.Time.{ticks}
 use Rattle.nv.specs.Cell.{write_length, cell_number, byte}
-use Rattle.nv.specs.Cycle as Cycle
+use Rattle.sensor.specs.Operation.{stored_write}
 use Rattle.calls.specs.declared.types.Call.{Call}
 use Rattle.sensor.specs.Image.{cell_byte, with_cell}
 use Rattle.bma150.specs.Called.{Added, start_number}
@@ -25,7 +25,7 @@ pub record Wanted (b : Start) (address value : ℕ) (at : Time) : Type 0 where
 pub record Happens (Over : List Call → Type 0) (b : Start) (address value : ℕ) (at : Time) : Type 0 where
   pub calls : List Call
   pub over : Over calls
-  pub begun : (after (started b) calls).sensor.writing ≡ Some (Cycle.start b.time, address, value)
+  pub begun : (after (started b) calls).sensor.writing ≡ Some (stored_write b.time address value)
   pub all_accepted : accepted (started b) (ending calls at 0) ≡ ending calls at 0
   pub returns : Returns b (ending calls at 0) at 2400
   pub stored : stored_bytes b (ending calls at 0) at 2400

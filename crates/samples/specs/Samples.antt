@@ -25,7 +25,7 @@ next_sample s = if samples_run s then Some (Clock.next s.sampling.clock) else No
 -- the end of a running write
 unfoldable pub write_end : Operation → Option Time
 write_end None = None
-write_end (Some (w, a, v)) = Some (Cycle.deadline w)
+write_end (Some w) = Some (Cycle.deadline w.cycle)
 
 unfoldable pub sample_due : Sensor → (samples : Bool) → Option Time
 sample_due s samples = if samples then next_sample s else None

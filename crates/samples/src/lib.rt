@@ -5,17 +5,9 @@ ghost use Rattle.std.specs.Prelude.{◌≡◌};
 ghost use Rattle.samples.specs.Samples as S;
 
 use control::lengths::needs;
-use nv::WriteCycle;
 use sampling::types::Acquisition;
 use sensor::types::Sensor;
 use time::Time;
-
-#[tactic(auto, unfolding(crate::specs::Samples::write_end))]
-fn write_end(operation: Option<(WriteCycle, u8, u8)>) -> Option<Time>
-    ensures { result ≡ S.write_end operation }
-{
-    operation.map(|(w, _, _)| w.deadline())
-}
 
 #[tactic(auto, unfolding(crate::specs::Samples::limit))]
 fn limit(end: Time, inclusive: bool) -> Time
@@ -48,7 +40,7 @@ fn sample_due(sensor: Sensor, samples: bool) -> Option<Time>
     if samples { next_sample(sensor) } else { None }
 }
 
-#[tactic(auto, unfolding(crate::specs::Samples::next_deadline))]
+#[tactic(auto, unfolding(crate::specs::Samples::next_deadline, crate::specs::Samples::write_end))]
 fn next_deadline(sensor: Sensor, samples: bool) -> Option<Time>
     ensures { result ≡ S.next_deadline sensor samples }
 {
@@ -56,7 +48,8 @@ fn next_deadline(sensor: Sensor, samples: bool) -> Option<Time>
         return None;
     }
     let sample = sample_due(sensor, samples);
-    sensor.deadlines.earliest(sample, write_end(sensor.writing))
+    let write = sensor.writing.map(|w| w.cycle.deadline());
+    sensor.deadlines.earliest(sample, write)
 }
 
 // Next due.

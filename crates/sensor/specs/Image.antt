@@ -7,7 +7,7 @@ use Rattle.time.specs.declared.Time.{Time}
 use Rattle.time.specs.Time.{plus, from_millis}
 use Rattle.time.specs.Clock as Clock
 use Rattle.nv.specs.Cell.{cell_number}
-use Rattle.nv.specs.Cycle.{byte_at}
+use Rattle.nv.specs.Cycle as Cycle
 use Rattle.filter.specs.Filter.{made, selected}
 use Rattle.analog.specs.Axis.{rest}
 use Rattle.interrupts.specs.State as I
@@ -22,6 +22,7 @@ use Rattle.registers.specs.Map.{at, chip_id, version, measurement, operation, ba
 use Rattle.registers.specs.Access.{stored}
 use Rattle.sampling.specs.declared.types.Sampling.{Sampling}
 use Rattle.sensor.specs.declared.types.Kept.{Kept}
+use Rattle.sensor.specs.declared.types.StoredWrite.{StoredWrite}
 use Rattle.sensor.specs.declared.types.Sensor.{Sensor}
 use Rattle.sensor.specs.Record.{with_registers, with_reads, with_sampling, with_interrupts, with_deadlines, with_filter}
 
@@ -33,10 +34,14 @@ cell_byte image address = if stored address then get_or image (address - 0x2b) 0
 unfoldable pub with_cell : (image : Image) (address : Address) (value : Byte) → Image
 with_cell image address value = if stored address then set image (address - 0x2b) value else image
 
+-- the byte of a running write's cell at a moment: torn until the write has ended (01)
+abbrev pub byte_at : StoredWrite → (image : Image) (now : Time) → Byte
+byte_at w image now = Cycle.byte_at w.cycle (cell_byte image w.address) w.value (cell_number w.address) now
+
 -- the stored bytes at a moment: a running write shows in its cell (`nonvolatile`)
 unfoldable pub image_at : Operation → (image : Image) (now : Time) → Image
 image_at None image now = image
-image_at (Some (w, address, value)) image now = with_cell image address (byte_at w (cell_byte image address) value (cell_number address) now)
+image_at (Some w) image now = with_cell image w.address (byte_at w image now)
 
 abbrev pub nonvolatile : Sensor → (now : Time) → Image
 nonvolatile s now = image_at s.writing s.nonvolatile now

@@ -26,7 +26,7 @@ use Rattle.sensor.specs.Image.{copy_image, reset_registers}
 
 -- awake with an empty filter and no scan counted; the stage goes on from where it was
 abbrev pub acquiring : Sampling → ℕ → (now : Time) → Sampling
-acquiring g b now = record { filter = made b; filtered = g.filtered; means = g.means; clock = g.clock; analog = all_resumed g.analog now; asleep = false; auto_cycles = 0; test = g.test; data_ready = g.data_ready }
+acquiring g b now = record g { filter = made b; analog = all_resumed g.analog now; asleep = false; auto_cycles = 0 }
 
 -- acquisition starts: samples begin so that the first scan is complete after `ready` (`start_acquisition`)
 abbrev pub start_acquisition : Sensor → (now : Time) (ready : Duration) → Sensor
@@ -119,7 +119,7 @@ automatic_control s now was_criterion verify =
 
 -- no code, every axis single, no self test, no new data; the stage at rest
 abbrev pub cleared : Sampling → (now : Time) → Sampling
-cleared g now = record { filter = g.filter; filtered = replicate 3 (pos 0); means = replicate 3 false; clock = g.clock; analog = rest now; asleep = g.asleep; auto_cycles = g.auto_cycles; test = None; data_ready = false }
+cleared g now = record g { filtered = replicate 3 (pos 0); means = replicate 3 false; analog = rest now; test = None; data_ready = false }
 
 -- registers, criteria and the I2C state as at a start, and the image copied
 abbrev pub reloaded : Sensor → Sensor

@@ -22,45 +22,45 @@ use Rattle.sensor.specs.declared.types.Sensor.{Sensor}
 -- ---- one part replaced
 
 abbrev pub with_registers : Sensor → List ℕ → Sensor
-with_registers s x = record { registers = x; nonvolatile = s.nonvolatile; frame = s.frame; i2c = s.i2c; reads = s.reads; kept = s.kept; sampling = s.sampling; deadlines = s.deadlines; writing = s.writing; interrupts = s.interrupts; supply = s.supply }
+with_registers s x = record s { registers = x }
 
 abbrev pub with_nonvolatile : Sensor → List ℕ → Sensor
-with_nonvolatile s x = record { registers = s.registers; nonvolatile = x; frame = s.frame; i2c = s.i2c; reads = s.reads; kept = s.kept; sampling = s.sampling; deadlines = s.deadlines; writing = s.writing; interrupts = s.interrupts; supply = s.supply }
+with_nonvolatile s x = record s { nonvolatile = x }
 
 abbrev pub with_frame : Sensor → Frame → Sensor
-with_frame s x = record { registers = s.registers; nonvolatile = s.nonvolatile; frame = x; i2c = s.i2c; reads = s.reads; kept = s.kept; sampling = s.sampling; deadlines = s.deadlines; writing = s.writing; interrupts = s.interrupts; supply = s.supply }
+with_frame s x = record s { frame = x }
 
 abbrev pub with_i2c : Sensor → State → Sensor
-with_i2c s x = record { registers = s.registers; nonvolatile = s.nonvolatile; frame = s.frame; i2c = x; reads = s.reads; kept = s.kept; sampling = s.sampling; deadlines = s.deadlines; writing = s.writing; interrupts = s.interrupts; supply = s.supply }
+with_i2c s x = record s { i2c = x }
 
 abbrev pub with_reads : Sensor → Reads → Sensor
-with_reads s x = record { registers = s.registers; nonvolatile = s.nonvolatile; frame = s.frame; i2c = s.i2c; reads = x; kept = s.kept; sampling = s.sampling; deadlines = s.deadlines; writing = s.writing; interrupts = s.interrupts; supply = s.supply }
+with_reads s x = record s { reads = x }
 
 abbrev pub with_kept : Sensor → Kept → Sensor
-with_kept s x = record { registers = s.registers; nonvolatile = s.nonvolatile; frame = s.frame; i2c = s.i2c; reads = s.reads; kept = x; sampling = s.sampling; deadlines = s.deadlines; writing = s.writing; interrupts = s.interrupts; supply = s.supply }
+with_kept s x = record s { kept = x }
 
 abbrev pub with_sampling : Sensor → Sampling → Sensor
-with_sampling s x = record { registers = s.registers; nonvolatile = s.nonvolatile; frame = s.frame; i2c = s.i2c; reads = s.reads; kept = s.kept; sampling = x; deadlines = s.deadlines; writing = s.writing; interrupts = s.interrupts; supply = s.supply }
+with_sampling s x = record s { sampling = x }
 
 abbrev pub with_deadlines : Sensor → Deadlines → Sensor
-with_deadlines s x = record { registers = s.registers; nonvolatile = s.nonvolatile; frame = s.frame; i2c = s.i2c; reads = s.reads; kept = s.kept; sampling = s.sampling; deadlines = x; writing = s.writing; interrupts = s.interrupts; supply = s.supply }
+with_deadlines s x = record s { deadlines = x }
 
 abbrev pub with_writing : Sensor → Operation → Sensor
-with_writing s x = record { registers = s.registers; nonvolatile = s.nonvolatile; frame = s.frame; i2c = s.i2c; reads = s.reads; kept = s.kept; sampling = s.sampling; deadlines = s.deadlines; writing = x; interrupts = s.interrupts; supply = s.supply }
+with_writing s x = record s { writing = x }
 
 abbrev pub with_interrupts : Sensor → Interrupts → Sensor
-with_interrupts s x = record { registers = s.registers; nonvolatile = s.nonvolatile; frame = s.frame; i2c = s.i2c; reads = s.reads; kept = s.kept; sampling = s.sampling; deadlines = s.deadlines; writing = s.writing; interrupts = x; supply = s.supply }
+with_interrupts s x = record s { interrupts = x }
 
 abbrev pub with_supply : Sensor → Supply → Sensor
-with_supply s x = record { registers = s.registers; nonvolatile = s.nonvolatile; frame = s.frame; i2c = s.i2c; reads = s.reads; kept = s.kept; sampling = s.sampling; deadlines = s.deadlines; writing = s.writing; interrupts = s.interrupts; supply = x }
+with_supply s x = record s { supply = x }
 
 -- what is kept, with another acceleration and temperature
 abbrev pub with_input : Kept → Input → Kept
-with_input k input = record { input = input; lines = k.lines }
+with_input k input = record k { input = input }
 
 -- and with other levels after the last accepted pin report
 abbrev pub lines_kept : Kept → Levels → Kept
-lines_kept k lines = record { input = k.input; lines = lines }
+lines_kept k lines = record k { lines = lines }
 
 abbrev pub with_lines : Sensor → Levels → Sensor
 with_lines s lines = with_kept s (lines_kept s.kept lines)
@@ -102,7 +102,7 @@ four_wire s = SPI4 (at s.registers operation)
 -- a stored write runs
 unfoldable pub runs : Operation → Bool
 runs None = false
-runs (Some (w, a, v)) = true
+runs (Some w) = true
 
 abbrev pub is_writing : Sensor → Bool
 is_writing s = runs s.writing
@@ -119,13 +119,13 @@ tests (Some n) = true
 -- ---- parts of the sampling
 
 abbrev pub with_filter : Sampling → Filter → Sampling
-with_filter g f = record { filter = f; filtered = g.filtered; means = g.means; clock = g.clock; analog = g.analog; asleep = g.asleep; auto_cycles = g.auto_cycles; test = g.test; data_ready = g.data_ready }
+with_filter g f = record g { filter = f }
 
 abbrev pub with_asleep : Sampling → Bool → Sampling
-with_asleep g b = record { filter = g.filter; filtered = g.filtered; means = g.means; clock = g.clock; analog = g.analog; asleep = b; auto_cycles = g.auto_cycles; test = g.test; data_ready = g.data_ready }
+with_asleep g b = record g { asleep = b }
 
 abbrev pub with_cycles : Sampling → ℕ → Sampling
-with_cycles g n = record { filter = g.filter; filtered = g.filtered; means = g.means; clock = g.clock; analog = g.analog; asleep = g.asleep; auto_cycles = n; test = g.test; data_ready = g.data_ready }
+with_cycles g n = record g { auto_cycles = n }
 
 abbrev pub with_ready : Sampling → Bool → Sampling
-with_ready g b = record { filter = g.filter; filtered = g.filtered; means = g.means; clock = g.clock; analog = g.analog; asleep = g.asleep; auto_cycles = g.auto_cycles; test = g.test; data_ready = b }
+with_ready g b = record g { data_ready = b }

@@ -2,13 +2,12 @@
 ghost use Rattle.std.specs.Prelude.{◌≡◌};
 ghost use Rattle.sensor.specs.Image as Im;
 
-use crate::types::{Kept, Sensor, Supply};
+use crate::types::{Kept, Sensor, StoredWrite, Supply};
 use analog::types::{Acceleration, Analog};
 use deadlines::{Deadlines, Wait};
 use filter::Filter;
 use i2c::types::{Levels, State};
 use interrupts::Interrupts;
-use nv::WriteCycle;
 use reads::Reads;
 use registers::access::stored;
 use registers::fields::{CHIP_ID, MEASUREMENT, OPERATION, SHADOW_DIS, VERSION, bandwidth, has};
@@ -16,46 +15,43 @@ use sampling::types::{Input, Sampling};
 use spi::types::Frame;
 use time::{Clock, Duration, Time};
 
-#[tactic(auto, unfolding(crate::specs::Image::cell_byte))]
+#[tactic(auto, unfolding(crate::specs::Image::cell_byte, registers::specs::Access::stored))]
 pub fn cell_byte(image: [u8; 19], address: u8) -> u8
     ensures { result ≡ Im.cell_byte image address }
 {
     if stored(address) {
-        return image[(address - 0x2b) as usize];
+        return image[usize::from(address - 0x2b)];
     }
     0
 }
 
-#[tactic(auto, unfolding(crate::specs::Image::with_cell))]
-pub fn with_cell(image: [u8; 19], address: u8, value: u8) -> [u8; 19]
+#[tactic(auto, unfolding(crate::specs::Image::with_cell, registers::specs::Access::stored))]
+pub fn with_cell(mut image: [u8; 19], address: u8, value: u8) -> [u8; 19]
     ensures { result ≡ Im.with_cell image address value }
 {
-    let mut changed = image;
     if stored(address) {
-        changed[(address - 0x2b) as usize] = value;
+        image[usize::from(address - 0x2b)] = value;
     }
-    changed
+    image
 }
 
-#[tactic(auto, unfolding(crate::specs::Image::image_at))]
-fn image_at(operation: Option<(WriteCycle, u8, u8)>, image: [u8; 19], now: Time) -> [u8; 19]
-    ensures { result ≡ Im.image_at operation image now }
-{
-    let Some((w, address, value)) = operation else {
-        return image;
-    };
-    let old = cell_byte(image, address);
-    let byte = w.byte(old, value, 0x20000 + address as u32, now);
-    with_cell(image, address, byte)
+impl StoredWrite {
+    // The byte of its cell at a moment: torn until the write has ended.
+    pub fn byte_at(self, image: [u8; 19], now: Time) -> u8
+        ensures { result ≡ Im.byte_at self image now }
+    {
+        let old = cell_byte(image, self.address);
+        let cell = 0x20000 + u32::from(self.address);
+        self.cycle.byte(old, self.value, cell, now)
+    }
 }
 
 // The image in the registers 0b..1d.
-fn image_copied(registers: [u8; 62], image: [u8; 19]) -> [u8; 62]
+fn image_copied(mut registers: [u8; 62], image: [u8; 19]) -> [u8; 62]
     ensures { result ≡ Im.image_copied registers image }
 {
-    let mut r = registers;
-    r[11..30].copy_from_slice(&image);
-    r
+    registers[11..30].copy_from_slice(&image);
+    registers
 }
 
 #[tactic(auto, unfolding(crate::specs::Image::shadowing))]
@@ -154,19 +150,22 @@ pub fn powered(now: Time, image: [u8; 19], kept: Kept) -> Sensor
     ensures { result ≡ Im.powered now image kept }
 {
     let ready = now.plus(Duration::from_millis(3));
-    let s = blank(now, image, kept).copy_image();
-    Sensor {
-        deadlines: s.deadlines.with(Wait::SerialReady, Some(ready)),
-        ..s
-    }
+    let mut s = blank(now, image, kept).copy_image();
+    s.deadlines.serial_ready = Some(ready);
+    s
 }
 
 impl Sensor {
     // The stored bytes at a moment.
+    #[tactic(auto, unfolding(crate::specs::Image::image_at))]
     pub fn nonvolatile(self, now: Time) -> [u8; 19]
         ensures { result ≡ Im.nonvolatile self now }
     {
-        image_at(self.writing, self.nonvolatile, now)
+        let image = self.nonvolatile;
+        match self.writing {
+            Some(w) => with_cell(image, w.address, w.byte_at(image, now)),
+            None => image,
+        }
     }
 
     // The registers are these; what follows from them is set.

@@ -3,7 +3,7 @@ ghost use Rattle.std.specs.Prelude.{◌≡◌};
 ghost use Rattle.sensor.specs.Record as Rec;
 ghost use Rattle.registers.specs.Map as Map;
 
-use crate::types::{Kept, Sensor};
+use crate::types::Sensor;
 use i2c::types::Levels;
 use registers::access::Gate;
 use registers::fields::{CONTROL, OPERATION, SPI4, WAKE_UP, has};
@@ -12,33 +12,18 @@ use registers::fields::{CONTROL, OPERATION, SPI4, WAKE_UP, has};
 pub fn byte_at(registers: [u8; 62], address: u8) -> u8
     ensures { result ≡ Map.at registers address }
 {
-    if address < 62 {
-        return registers[address as usize];
-    }
-    0
-}
-
-// The registers with one byte replaced; there is none from 3e on.
-fn with_byte(registers: [u8; 62], address: u8, value: u8) -> [u8; 62]
-    ensures { result ≡ Rec.with_byte registers address value }
-{
-    let mut r = registers;
-    if address < 62 {
-        r[address as usize] = value;
-    }
-    r
+    registers.get(usize::from(address)).copied().unwrap_or(0)
 }
 
 impl Sensor {
-    // A register keeps a value; there is none from 3e on.
-    pub fn put(self, address: u8, value: u8) -> Sensor
+    // A register keeps a value; there is none from 3e on (by a bound: with `get_mut` the proof did not close).
+    pub fn put(mut self, address: u8, value: u8) -> Sensor
         ensures { result ≡ Rec.put self address value }
     {
-        let changed = with_byte(self.registers, address, value);
-        Sensor {
-            registers: changed,
-            ..self
+        if address < 62 {
+            self.registers[usize::from(address)] = value;
         }
+        self
     }
 
     // The levels after the last accepted pin report.
@@ -49,13 +34,11 @@ impl Sensor {
     }
 
     // The levels that the next pin report must begin with.
-    pub fn with_lines(self, lines: Levels) -> Sensor
+    pub fn with_lines(mut self, lines: Levels) -> Sensor
         ensures { result ≡ Rec.with_lines self lines }
     {
-        Sensor {
-            kept: Kept { lines, ..self.kept },
-            ..self
-        }
+        self.kept.lines = lines;
+        self
     }
 
     #[tactic(auto, unfolding(deadlines::specs::Deadlines::is_set))]
@@ -65,6 +48,7 @@ impl Sensor {
         self.supply.unpowered_since.is_some()
     }
 
+    // This and the next two read one wait each: a function over `Wait` would match it back to its field, and say no more.
     #[tactic(auto, unfolding(deadlines::specs::Deadlines::is_set))]
     pub fn serial_not_ready(self) -> bool
         ensures { result ≡ Rec.serial_not_ready self }

@@ -21,7 +21,7 @@ fn low_address(address: u8) -> u8
 fn is_mean(means: [bool; 3], axis: u8) -> bool
     ensures { result ≡ get_or means axis false }
 {
-    axis < 3 && means[axis as usize]
+    means.get(usize::from(axis)).copied().unwrap_or(false)
 }
 
 impl Sensor {

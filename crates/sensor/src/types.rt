@@ -23,7 +23,15 @@ pub struct Kept {
     pub lines: Levels,
 }
 
-// `writing` is the stored write that runs: when it began, the address and the wanted byte (the Rust's `nv_operation`).
+// A stored write that runs: when it began, its address and the wanted byte.
+#[derive(Clone, Copy)]
+pub struct StoredWrite {
+    pub cycle: WriteCycle,
+    pub address: u8,
+    pub value: u8,
+}
+
+// `writing` is the stored write that runs, if one does (the Rust's `nv_operation`).
 #[derive(Clone, Copy)]
 pub struct Sensor {
     pub registers: [u8; 62],
@@ -34,7 +42,7 @@ pub struct Sensor {
     pub kept: Kept,
     pub sampling: Sampling,
     pub deadlines: Deadlines,
-    pub writing: Option<(WriteCycle, u8, u8)>,
+    pub writing: Option<StoredWrite>,
     pub interrupts: Interrupts,
     pub supply: Supply,
 }

@@ -80,6 +80,7 @@ fn i2c_pins(mut sensor: Sensor, e: Edge, now: Time) -> Sensor
     sensor
 }
 
+// As `rise_synced` and `fall_synced` of SPI: each asks another thing of its edge, and all that they share is a call.
 #[tactic(auto, unfolding(crate::specs::I2cPins::pins_synced))]
 pub fn pins_synced(sensor: Sensor, e: Edge, now: Time) -> Sensor
     ensures { result ≡ Z.pins_synced sensor e now }

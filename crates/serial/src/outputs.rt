@@ -2,17 +2,16 @@
 ghost use Rattle.std.specs.Prelude.{◌≡◌};
 ghost use Rattle.serial.specs.Outputs as Out;
 
+use crate::i2c_pins::i2c_listens;
+use crate::spi_edges::spi_listens;
 use sensor::types::Sensor;
 use spi::types::Drive;
 
-#[tactic(auto, unfolding(crate::specs::Outputs::spi_drives))]
+#[tactic(auto, unfolding(crate::specs::Outputs::spi_drives, crate::specs::SpiEdges::spi_listens))]
 pub fn spi_drives(sensor: Sensor) -> bool
     ensures { result ≡ Out.spi_drives sensor }
 {
-    !sensor.serial_not_ready()
-        && sensor.frame.selected
-        && !sensor.sampling.asleep
-        && !sensor.is_quiet()
+    spi_listens(sensor) && !sensor.sampling.asleep
 }
 
 // The four-wire output.
@@ -26,11 +25,11 @@ pub fn output(sensor: Sensor) -> Drive
     Drive::Floating
 }
 
-#[tactic(auto, unfolding(crate::specs::Outputs::i2c_holds))]
+#[tactic(auto, unfolding(crate::specs::Outputs::i2c_holds, crate::specs::I2cPins::i2c_listens))]
 pub fn i2c_holds(sensor: Sensor) -> bool
     ensures { result ≡ Out.i2c_holds sensor }
 {
-    !sensor.frame.selected && !sensor.is_off() && !sensor.serial_not_ready() && sensor.i2c.low
+    i2c_listens(sensor) && sensor.i2c.low
 }
 
 // The data pin.

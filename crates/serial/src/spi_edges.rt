@@ -63,6 +63,7 @@ fn bit_done(mut sensor: Sensor, t: Taken, now: Time) -> Sensor
     write_done(sensor, t.write, now)
 }
 
+// The bit and its moment stay two: each goes on to one function from here, and a record of them would be made only to be taken apart.
 fn bit_taken(sensor: Sensor, mosi: bool, now: Time) -> Sensor
     ensures { result ≡ Z.bit_taken sensor mosi now }
 {

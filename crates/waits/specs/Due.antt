@@ -40,7 +40,7 @@ completed s address value =
 
 unfoldable pub write_ended : Operation → Sensor → (now : Time) → Served
 write_ended None s now = without_report s
-write_ended (Some (w, address, value)) s now = if same (Cycle.deadline w) now then completed s address value else without_report s
+write_ended (Some w) s now = if same (Cycle.deadline w.cycle) now then completed s w.address w.value else without_report s
 
 -- an image copy that ends now: update_image is cleared
 abbrev pub image_loaded : Sensor → Sensor

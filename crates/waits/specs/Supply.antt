@@ -6,9 +6,6 @@ use Rattle.time.specs.declared.Time.{Time}
 use Rattle.time.specs.declared.Duration.{Duration}
 use Rattle.time.specs.Time.{since, from_millis}
 use Rattle.analog.specs.Axis.{Acceleration}
-use Rattle.nv.specs.declared.WriteCycle.{WriteCycle}
-use Rattle.nv.specs.Cell.{cell_number}
-use Rattle.nv.specs.Cycle.{byte_at}
 use Rattle.i2c.specs.Engine as E
 use Rattle.deadlines.specs.Deadlines.{shifted}
 use Rattle.sampling.specs.declared.types.Sampling.{Sampling}
@@ -17,7 +14,7 @@ use Rattle.waits.specs.declared.types.Report.{Report}
 use Rattle.waits.specs.declared.types.Served.{Served}
 use Rattle.sensor.specs.declared.types.Sensor.{Sensor}
 use Rattle.sensor.specs.Record.{with_nonvolatile, with_i2c, with_sampling, with_kept, with_input, with_deadlines, with_writing, with_supply, is_off}
-use Rattle.sensor.specs.Image.{cell_byte, with_cell, power_on}
+use Rattle.sensor.specs.Image.{byte_at, with_cell, power_on}
 use Rattle.sensor.specs.Mode.{start_acquisition}
 use Rattle.sensor.specs.Select.{set_selected}
 
@@ -32,13 +29,11 @@ abbrev pub write_over : Sensor → (address : Address) (value : Byte) → Sensor
 write_over s address value = with_writing (with_nonvolatile s (with_cell s.nonvolatile address value)) (None)
 
 -- 01: a running write is cut, and its cell holds the torn byte
-abbrev pub torn : WriteCycle → Sensor → (address : Address) (value : Byte) (now : Time) → ℕ
-torn w s address value now = byte_at w (cell_byte s.nonvolatile address) value (cell_number address) now
-
 unfoldable pub cut : Operation → Sensor → (now : Time) → Served
 cut None s now = without_report s
-cut (Some (w, address, value)) s now =
-    record { sensor = write_over s address (torn w s address value now); report = Some (Report.Cut address (torn w s address value now)) }
+cut (Some w) s now =
+    let torn = byte_at w s.nonvolatile now in
+    record { sensor = write_over s w.address torn; report = Some (Report.Cut w.address torn) }
 
 -- deselected, the engine aborted, off since now
 abbrev pub off : Sensor → (now : Time) (cold : Bool) → Sensor

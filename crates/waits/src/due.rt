@@ -5,10 +5,9 @@ ghost use Rattle.waits.specs.Due as D;
 use crate::supply::{without_report, write_over};
 use crate::types::{Report, Served};
 use deadlines::{is_at, unless_at};
-use nv::WriteCycle;
 use registers::fields::CONTROL;
 use samples::{after_edges, next_sample};
-use sensor::types::Sensor;
+use sensor::types::{Sensor, StoredWrite};
 use time::{Clock, Duration, Time};
 
 // Automatic mode verifies at the end of a scan or of a hold.
@@ -38,24 +37,24 @@ fn pause_ended(sensor: Sensor, now: Time) -> Sensor
     sensor
 }
 
-fn completed(sensor: Sensor, address: u8, value: u8) -> Served
-    ensures { result ≡ D.completed sensor address value }
+fn completed(sensor: Sensor, w: StoredWrite) -> Served
+    ensures { result ≡ D.completed sensor w.address w.value }
 {
     Served {
-        sensor: write_over(sensor, address, value).copy_image(),
-        report: Some(Report::Completed(address, value)),
+        sensor: write_over(sensor, w.address, w.value).copy_image(),
+        report: Some(Report::Completed(w.address, w.value)),
     }
 }
 
 #[tactic(auto, unfolding(crate::specs::Due::write_ended))]
-fn write_ended(sensor: Sensor, operation: Option<(WriteCycle, u8, u8)>, now: Time) -> Served
-    ensures { result ≡ D.write_ended operation sensor now }
+fn write_ended(sensor: Sensor, now: Time) -> Served
+    ensures { result ≡ D.write_ended sensor.writing sensor now }
 {
-    let Some((w, address, value)) = operation else {
+    let Some(w) = sensor.writing else {
         return without_report(sensor);
     };
-    if w.deadline() == now {
-        return completed(sensor, address, value);
+    if w.cycle.deadline() == now {
+        return completed(sensor, w);
     }
     without_report(sensor)
 }
@@ -118,7 +117,7 @@ fn waits_served(sensor: Sensor, now: Time) -> Served
     ensures { result ≡ D.waits_served sensor now }
 {
     let p = pause_ended(waits_ended(sensor, now), now);
-    let w = write_ended(p, p.writing, now);
+    let w = write_ended(p, now);
     Served {
         sensor: wake_ended(image_ended(w.sensor, now), now),
         report: w.report,

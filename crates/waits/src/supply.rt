@@ -4,9 +4,8 @@ ghost use Rattle.waits.specs.Supply as Sup;
 
 use crate::types::{Report, Served};
 use analog::types::Acceleration;
-use nv::WriteCycle;
 use sampling::types::Sampling;
-use sensor::image::{cell_byte, with_cell};
+use sensor::image::with_cell;
 use sensor::types::{Sensor, Supply};
 use time::{Duration, Time};
 
@@ -26,7 +25,7 @@ pub fn without_report(sensor: Sensor) -> Served
     }
 }
 
-// A stored write is over: its cell holds this byte.
+// A stored write is over: its cell holds this byte, the wanted one or a torn one.
 pub fn write_over(sensor: Sensor, address: u8, value: u8) -> Sensor
     ensures { result ≡ Sup.write_over sensor address value }
 {
@@ -39,17 +38,16 @@ pub fn write_over(sensor: Sensor, address: u8, value: u8) -> Sensor
 }
 
 #[tactic(auto, unfolding(crate::specs::Supply::cut))]
-fn cut(sensor: Sensor, operation: Option<(WriteCycle, u8, u8)>, now: Time) -> Served
-    ensures { result ≡ Sup.cut operation sensor now }
+fn cut(sensor: Sensor, now: Time) -> Served
+    ensures { result ≡ Sup.cut sensor.writing sensor now }
 {
-    let Some((w, address, value)) = operation else {
+    let Some(w) = sensor.writing else {
         return without_report(sensor);
     };
-    let old = cell_byte(sensor.nonvolatile, address);
-    let byte = w.byte(old, value, 0x20000 + address as u32, now);
+    let torn = w.byte_at(sensor.nonvolatile, now);
     Served {
-        sensor: write_over(sensor, address, byte),
-        report: Some(Report::Cut(address, byte)),
+        sensor: write_over(sensor, w.address, torn),
+        report: Some(Report::Cut(w.address, torn)),
     }
 }
 
@@ -75,7 +73,7 @@ fn held(mut sensor: Sensor, now: Time) -> Sensor
 fn power_off(sensor: Sensor, now: Time, cold: bool) -> Served
     ensures { result ≡ Sup.power_off sensor now cold }
 {
-    let c = cut(held(sensor, now), sensor.writing, now);
+    let c = cut(held(sensor, now), now);
     Served {
         sensor: off(c.sensor, now, cold),
         report: c.report,

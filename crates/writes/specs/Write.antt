@@ -3,7 +3,6 @@ use Rattle.std.specs.Prelude.{Bool, true, false, set, if◌then◌else◌, Some,
 use Rattle.laws.specs.Notation.{Byte, Address}
 use Rattle.time.specs.declared.Time.{Time}
 use Rattle.time.specs.Time.{plus, from_millis, from_micros}
-use Rattle.nv.specs.Cycle as Cycle
 use Rattle.filter.specs.Filter.{selected}
 use Rattle.interrupts.specs.State as I
 use Rattle.deadlines.specs.Deadlines.{with_irq_hold, with_image}
@@ -14,6 +13,7 @@ use Rattle.control.specs.Kinds as Kinds
 use Rattle.registers.specs.Map.{at, status, control, measurement, operation, bandwidth, without_st_result}
 use Rattle.sampling.specs.Phase.{with_test}
 use Rattle.sensor.specs.declared.types.Sensor.{Sensor}
+use Rattle.sensor.specs.Operation.{stored_write}
 use Rattle.sensor.specs.Record.{put, with_registers, with_reads, with_sampling, with_deadlines, with_writing, with_interrupts, gate, automatic, is_writing, with_filter, with_cycles, with_ready}
 use Rattle.sensor.specs.Image.{shadowing}
 use Rattle.sensor.specs.Mode.{criterion, start_acquisition, pause, automatic_control, soft_reset}
@@ -93,7 +93,7 @@ register_effect WriteKind.Plain s address value now = put s address value
 
 -- 01: a stored write begins
 abbrev pub begun : Sensor → (address : Address) (value : Byte) (now : Time) → Sensor
-begun s address value now = with_writing s (Some (Cycle.start now, address, value))
+begun s address value now = with_writing s (Some (stored_write now address value))
 
 -- a write to a register lets automatic mode follow
 abbrev pub then_automatic : WriteKind → Sensor → (address : Address) (value : Byte) (now : Time) → Sensor

@@ -9,7 +9,7 @@ use control::types::{SelfTest, Sleep, WriteKind};
 use nv::WriteCycle;
 use registers::fields::{CONTROL, MEASUREMENT, OPERATION, STATUS, bandwidth};
 use sensor::image::shadowing;
-use sensor::types::Sensor;
+use sensor::types::{Sensor, StoredWrite};
 use time::{Duration, Time};
 
 #[tactic(auto, unfolding(crate::specs::Write::recounted))]
@@ -130,6 +130,7 @@ fn durations_written(sensor: Sensor, address: u8, value: u8) -> Sensor
     s
 }
 
+// An address and its value stay two numbers beside the kind: both engines hand them over so, and each write takes them apart.
 #[tactic(auto, unfolding(crate::specs::Write::register_effect))]
 fn register_effect(sensor: Sensor, w: WriteKind, address: u8, value: u8, now: Time) -> Sensor
     ensures { result ≡ W.register_effect w sensor address value now }
@@ -145,48 +146,24 @@ fn register_effect(sensor: Sensor, w: WriteKind, address: u8, value: u8, now: Ti
     }
 }
 
-fn begun(mut sensor: Sensor, address: u8, value: u8, now: Time) -> Sensor
-    ensures { result ≡ W.begun sensor address value now }
-{
-    sensor.writing = Some((WriteCycle::start(now), address, value));
-    sensor
-}
-
-fn then_automatic(sensor: Sensor, w: WriteKind, address: u8, value: u8, now: Time) -> Sensor
-    ensures { result ≡ W.then_automatic w sensor address value now }
-{
-    register_effect(sensor, w, address, value, now).automatic_control(
-        now,
-        sensor.criterion(),
-        false,
-    )
-}
-
+// A stored write begins; any other is followed by automatic mode.
 #[tactic(auto, unfolding(crate::specs::Write::write_effect))]
-fn write_effect(sensor: Sensor, w: WriteKind, address: u8, value: u8, now: Time) -> Sensor
-    ensures { result ≡ W.write_effect w sensor address value now }
-{
-    match w {
-        WriteKind::Ignored => sensor,
-        WriteKind::Stored => begun(sensor, address, value, now),
-        _ => then_automatic(sensor, w, address, value, now),
-    }
-}
-
-fn write_kind(sensor: Sensor, address: u8, value: u8) -> WriteKind
-    ensures { result ≡ W.write_kind sensor address value }
-{
-    kind_of_write(address, value, sensor.gate(), sensor.is_writing())
-}
-
 pub fn write_register(sensor: Sensor, address: u8, value: u8, now: Time) -> Sensor
     ensures { result ≡ W.write_register sensor address value now }
 {
-    write_effect(
-        sensor,
-        write_kind(sensor, address, value),
-        address,
-        value,
-        now,
-    )
+    match kind_of_write(address, value, sensor.gate(), sensor.is_writing()) {
+        WriteKind::Ignored => sensor,
+        WriteKind::Stored => Sensor {
+            writing: Some(StoredWrite {
+                cycle: WriteCycle::start(now),
+                address,
+                value,
+            }),
+            ..sensor
+        },
+        w => {
+            let s = register_effect(sensor, w, address, value, now);
+            s.automatic_control(now, sensor.criterion(), false)
+        }
+    }
 }

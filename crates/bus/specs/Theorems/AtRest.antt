@@ -207,7 +207,7 @@ selected_to_rests s on h = by (F.changes s.frame on)
 cut_alike : (o : Operation) (s : Sensor) (now : Time) → Alike s.frame (cut o s now).sensor.frame
 unfolding cut
 cut_alike None s now = record { selected = refl; serial = refl }
-cut_alike (Some (w, a, v)) s now = record { selected = refl; serial = refl }
+cut_alike (Some w) s now = record { selected = refl; serial = refl }
 
 low_rests : (s : Sensor) (zero : Bool) (now : Time) → Rested s.frame → Rested (supply_low s zero now).sensor.frame
 unfolding supply_low zero_while_off
@@ -238,9 +238,9 @@ supply_rests s rail now h = by (ltb rail 2400) (is_off s)
 over_alike : (o : Operation) (s : Sensor) (now : Time) → Alike s.frame (write_ended o s now).sensor.frame
 unfolding write_ended
 over_alike None s now = record { selected = refl; serial = refl }
-over_alike (Some (w, a, v)) s now = by (same (Cycle.deadline w) now)
+over_alike (Some w) s now = by (same (Cycle.deadline w.cycle) now)
   where
-    by : (b : Bool) → Alike s.frame (cond b (completed s a v) (without_report s)).sensor.frame
+    by : (b : Bool) → Alike s.frame (cond b (completed s w.address w.value) (without_report s)).sensor.frame
     by true = record { selected = refl; serial = refl }
     by false = record { selected = refl; serial = refl }
 

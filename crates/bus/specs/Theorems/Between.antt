@@ -47,9 +47,9 @@ waits_same s now ready loud = record { same = ended_parts s _ _ _ _ (never_ends 
 write_same : (o : Operation) (s : Sensor) (now : Time) → Same s (write_ended o s now).sensor
 unfolding write_ended
 write_same None s now = itself s
-write_same (Some (w, a, v)) s now = by_test (same (Cycle.deadline w) now) refl
+write_same (Some w) s now = by_test (same (Cycle.deadline w.cycle) now) refl
   where
-    by_test : (t : Bool) → same (Cycle.deadline w) now ≡ t → Same s (write_ended (Some (w, a, v)) s now).sensor
+    by_test : (t : Bool) → same (Cycle.deadline w.cycle) now ≡ t → Same s (write_ended (Some w) s now).sensor
     by_test true e = record { same = rw e }
     by_test false e = record { same = rw e }
 

@@ -1,5 +1,4 @@
 -- Stored writes over SPI: fifteen rises, an address byte and seven bits of a value, begin nothing; the sixteenth begins a stored write exactly where 01's rule holds. Any falls may stand between.
-use Rattle.sensor.specs.Operation.{Operation}
 use Rattle.std.specs.Prelude.{ℕ, ◌<◌, ◌≡◌, Bool, true, false, List, [], ◌∷◌, ◌++◌, if◌then◌else◌, Option, Some, None}
 use Rattle.std.proofs.Math.Path.{refl, ap}
 use Rattle.std.proofs.Common.{◌∙◌}

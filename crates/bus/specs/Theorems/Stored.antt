@@ -1,11 +1,10 @@
 -- Stored writes over I2C: START, 70 hex, a register and seven bits of a value begin nothing; the eighth rise begins a stored write exactly where 01's rule holds.
-use Rattle.sensor.specs.Operation.{Operation}
+use Rattle.sensor.specs.Operation.{Operation, stored_write}
 use Rattle.std.specs.Prelude.{ℕ, ◌%◌, ◌<◌, ◌≡◌, Bool, true, false, List, [], ◌++◌, if◌then◌else◌, Some}
 use Rattle.std.proofs.Math.Path.{refl, ap}
 use Rattle.std.proofs.Common.{◌∙◌, leb→le}
 use Rattle.laws.specs.Bytes.{sent_bit, all_shifted_in, seven_bits, bits_make_the_byte}
 use Rattle.time.specs.declared.Time.{Time}
-use Rattle.nv.specs.Cycle as Cycle
 use Rattle.i2c.specs.declared.types.Levels.{Levels}
 use Rattle.i2c.specs.declared.types.Edge.{Edge}
 use Rattle.i2c.specs.declared.types.Edge.TheVariants.{Rise}
@@ -47,7 +46,7 @@ use Rattle.bus.specs.Theorems.Asked.{asked_are_seen, call_asks}
 -- ---- what a register write leaves of the running write
 
 abbrev pub running : (address value : ℕ) (now : Time) → Operation
-running address value now = Some (Cycle.start now, address, value)
+running address value now = Some (stored_write now address value)
 
 module _ (s : Sensor) (address value : ℕ) (now : Time) where
   abbrev left : WriteKind → Operation

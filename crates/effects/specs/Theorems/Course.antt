@@ -273,12 +273,12 @@ module _ (now : Time) where
     acknowledges = λ s. stays refl refl refl refl;
     launches = λ s byte. stays refl refl refl refl;
     waits_end = λ s. stays refl refl refl refl;
-    completes = λ s w address value o. cuts_cell s address value;
+    completes = λ s w o. cuts_cell s w.address w.value;
     copies = copies;
     loads = λ s. followed (copies s) (puts_at control _ (omega arith) refl refl refl refl);
     wakes = λ s. stays refl refl refl refl;
     stops = λ s. let k = held_keeps s.sampling now s.kept.input in stays refl refl k.0 k.1;
-    cuts = λ s w address value o. cuts_cell s address _;
+    cuts = λ s w o. cuts_cell s w.address _;
     goes_off = λ s cold. stays refl refl refl refl;
     meets_zero = λ s o. stays refl refl refl refl;
     comes_back = λ s o. stays refl refl refl refl;

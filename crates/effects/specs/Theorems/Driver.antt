@@ -373,9 +373,9 @@ paused_driver s now false e = rw e
 over_driver : (o : Operation) (s : Sensor) (now : Time) → (write_ended o s now).sensor.frame.driven ≡ s.frame.driven
 unfolding write_ended
 over_driver None s now = refl
-over_driver (Some (w, a, v)) s now = by (same (Cycle.deadline w) now) refl
+over_driver (Some w) s now = by (same (Cycle.deadline w.cycle) now) refl
   where
-    by : (b : Bool) → same (Cycle.deadline w) now ≡ b → (write_ended (Some (w, a, v)) s now).sensor.frame.driven ≡ s.frame.driven
+    by : (b : Bool) → same (Cycle.deadline w.cycle) now ≡ b → (write_ended (Some w) s now).sensor.frame.driven ≡ s.frame.driven
     by true e = rw e
     by false e = rw e
 

@@ -118,7 +118,7 @@ held_asleep s now e = rw e
 cut_stays : (o : Operation) (s : Sensor) (now : Time) → stage (cut o s now).sensor ≡ stage s
 unfolding cut
 cut_stays None s now = refl
-cut_stays (Some (w, a, v)) s now = refl
+cut_stays (Some w) s now = refl
 
 deselected : (s : Sensor) (b : Bool) → stage (selected_to s b) ≡ stage s
 unfolding selected_to

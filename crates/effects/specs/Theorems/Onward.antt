@@ -90,12 +90,12 @@ module _ (now : Time) where
     acknowledges = λ s. record { onward = λ h. h };
     launches = λ s byte. record { onward = λ h. h };
     waits_end = λ s. record { onward = λ h. h };
-    completes = λ s w address value o. record { onward = λ h. h };
+    completes = λ s w o. record { onward = λ h. h };
     copies = λ s. record { onward = λ h. h };
     loads = λ s. record { onward = λ h. h };
     wakes = λ s. record { onward = λ h. h };
     stops = λ s. record { onward = λ h. held_upto now s.sampling s.kept.input h };
-    cuts = λ s w address value o. record { onward = λ h. h };
+    cuts = λ s w o. record { onward = λ h. h };
     goes_off = λ s cold. record { onward = λ h. h };
     meets_zero = λ s o. record { onward = λ h. h };
     comes_back = λ s o. record { onward = λ h. h };

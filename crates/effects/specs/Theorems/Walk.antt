@@ -153,8 +153,8 @@ module _ (now : Time) (R : Sensor → Sensor → Type 0) (p : Steps now R) where
   write_ended_meets : (op : Operation) (s : Sensor) → s.writing ≡ op → R s (write_ended op s now).sensor
   unfolding write_ended
   write_ended_meets None s o = same_as s
-  write_ended_meets (Some (w, a, v)) s o =
-      chosen (completed s a v) (S.without_report s) (same (Cycle.deadline w) now) (λ e. p.then (p.completes s w a v o) (p.copies _)) (λ e. same_as s)
+  write_ended_meets (Some w) s o =
+      chosen (completed s w.address w.value) (S.without_report s) (same (Cycle.deadline w.cycle) now) (λ e. p.then (p.completes s w o) (p.copies _)) (λ e. same_as s)
 
   image_ended_meets : (s : Sensor) → R s (image_ended s now)
   unfolding image_ended
@@ -185,7 +185,7 @@ module _ (now : Time) (R : Sensor → Sensor → Type 0) (p : Steps now R) where
   cut_meets : (op : Operation) (s : Sensor) → s.writing ≡ op → R s (S.cut op s now).sensor
   unfolding S.cut
   cut_meets None s o = same_as s
-  cut_meets (Some (w, a, v)) s o = p.cuts s w a v o
+  cut_meets (Some w) s o = p.cuts s w o
 
   off_meets : (s : Sensor) (cold : Bool) → R s (S.off s now cold)
   off_meets s cold = p.then (select_meets s false) (p.then (p.aborts _) (p.goes_off _ cold))

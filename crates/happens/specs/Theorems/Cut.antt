@@ -1,5 +1,5 @@
 -- The cut of a running write by 0 mV, the return, and the stored bytes right after it.
-use Rattle.sensor.specs.Operation.{Operation}
+use Rattle.sensor.specs.Operation.{Operation, stored_write}
 use Rattle.std.specs.Prelude.{ℕ, ◌+◌, ◌-◌, ◌^◌, ◌<◌, ◌≤◌, ◌≡◌, refl, Bool, true, cond, List, [], ◌∷◌, Option, Some, None}
 use Rattle.std.proofs.Common.{le_refl, ◌∙◌, le-ltb}
 use Rattle.std.proofs.Math.Path.{ap}
@@ -7,7 +7,6 @@ use Rattle.std.proofs.Math.Bool.{false}
 use Rattle.time.specs.declared.Time.{Time}
 use Rattle.time.specs.Time.{ticks, precedes}
 use Rattle.nv.specs.Cell.{write_length, cell_number, byte}
-use Rattle.nv.specs.Cycle as Cycle
 use Rattle.deadlines.specs.Deadlines.{is_set, is_by}
 use Rattle.spi.specs.Frame as F
 use Rattle.calls.specs.declared.types.Timed.TheVariants as Timed
@@ -65,7 +64,7 @@ torn_cells t now image a x = with_cell image a (byte (cell_byte image a) x (cell
 
 module _ (t now : Time) {image : List ℕ} {selected : Bool} {a x : ℕ} {s : Sensor} (high : t.0 < 2 ^ 32) (low : t.1 < 2 ^ 64) (late : T.late now ≡ false)
     (since : ticks t ≤ ticks now) (within : ticks now < ticks t + write_length)
-    (h : Asleep image selected s) (running : s.writing ≡ Some (Cycle.start t, a, x)) where
+    (h : Asleep image selected s) (running : s.writing ≡ Some (stored_write t a x)) where
   cells_torn : (cut s.writing (Supply.held s now) now).sensor.nonvolatile ≡ torn_cells t now image a x
   unfolding cut
   cells_torn = rw (running, h.cells)

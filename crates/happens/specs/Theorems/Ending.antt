@@ -3,7 +3,7 @@ use Rattle.std.specs.Prelude.{ℕ, ◌^◌, ◌≡◌, refl, Bool, true, false, 
 use Rattle.std.proofs.Common.{ap, ◌∙◌}
 use borrow.Author.Tests.{lt-leb}
 use Rattle.time.specs.declared.Time.{Time}
-use Rattle.nv.specs.Cycle as Cycle
+use Rattle.sensor.specs.Operation.{stored_write}
 use Rattle.calls.specs.declared.types.Timed.TheVariants as Timed
 use Rattle.calls.specs.declared.types.Call.{Call}
 use Rattle.calls.specs.Table as T
@@ -33,7 +33,7 @@ pub record Begins (b : Start) (address value : ℕ) (cs : List Call) : Type 0 wh
   pub sensor : Sensor
   pub goes : Goes (started b) cs (host b.time sensor)
   pub asleep : Asleep b.image selected sensor
-  pub running : sensor.writing ≡ Some (Cycle.start b.time, address, value)
+  pub running : sensor.writing ≡ Some (stored_write b.time address value)
   pub fits : Fractions cs
 
 module _ {b : Start} {a x : ℕ} {at : Time} {cs : List Call} (w : Wanted b a x at) (h : Begins b a x cs) where

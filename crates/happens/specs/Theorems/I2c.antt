@@ -1,11 +1,10 @@
 -- Every stored write happens over I2C: START, 70 hex and four pairs of register and value at the start's time.
-use Rattle.sensor.specs.Operation.{Operation}
+use Rattle.sensor.specs.Operation.{stored_write}
 use Rattle.std.specs.Prelude.{ℕ, ◌^◌, ◌<◌, ◌≡◌, refl, Bool, true, false, Option, Some, None}
 use Rattle.std.proofs.Common.{arith, sym, ap, subst, ◌∙◌, lit<}
 use mathlib.Core.List.{List, [], ◌∷◌, ◌++◌}
 use Rattle.laws.specs.Bytes.{sent_bit, seven_bits}
 use Rattle.time.specs.declared.Time.{Time}
-use Rattle.nv.specs.Cycle as Cycle
 use Rattle.i2c.specs.declared.types.Levels.{Levels}
 use Rattle.i2c.specs.declared.types.Receive.TheVariants as R
 use Rattle.i2c.specs.declared.types.Phase.TheVariants as P
@@ -168,13 +167,13 @@ module _ {b : Start} {a x : ℕ} {cut : Time} (w : Wanted b a x cut) where
   idle2 : s2.writing ≡ None
   idle2 = h2.1 ∙ idle1
 
-  h3 : Manual t image false (meets s2 a x) s3 × (s3.writing ≡ Some (Cycle.start t, a, x))
+  h3 : Manual t image false (meets s2 a x) s3 × (s3.writing ≡ Some (stored_write t a x))
   h3 = stored_written (awake_engine h2.0.awake _ _) h2.0.manual h2.2 idle2 a x w.first_cell w.last_cell
 
   h4 : Asleep image false s4 × (s4.writing ≡ s3.writing) × (s4.i2c ≡ engine P.Idle 0x0a 0 0)
   h4 = sleep_written (awake_engine h3.0.awake _ _) h3.0.manual
 
-  running4 : s4.writing ≡ Some (Cycle.start t, a, x)
+  running4 : s4.writing ≡ Some (stored_write t a x)
   running4 = h4.1 ∙ h3.1
 
   pairs_go : Goes (host t (on_bus s0 (receives R.Control 0 0 0) (lines false false))) (pairs t a x) (host t (on_bus s4 (receives R.Control 0x0a 0 0) (lines false false)))

@@ -1,12 +1,11 @@
 -- Every stored write happens over SPI: select, and four write frames at the start's time.
-use Rattle.sensor.specs.Operation.{Operation}
+use Rattle.sensor.specs.Operation.{stored_write}
 use Rattle.std.specs.Prelude.{ℕ, ◌^◌, ◌<◌, ◌≡◌, Bool, true, false, Option, Some, None}
-use Rattle.std.proofs.Common.{arith, sym, ap, subst, ◌∙◌, lit<}
+use Rattle.std.proofs.Common.{arith, sym, subst, ◌∙◌, lit<}
 use Rattle.std.proofs.Math.Path.{refl}
 use mathlib.Core.List.{List, [], ◌∷◌, ◌++◌}
 use Rattle.laws.specs.Bytes.{sent_bit, seven_bits}
 use Rattle.time.specs.declared.Time.{Time}
-use Rattle.nv.specs.Cycle as Cycle
 use Rattle.deadlines.specs.Deadlines.{is_set, is_by}
 use Rattle.spi.specs.Frame as F
 use Rattle.calls.specs.declared.types.Call.{Call}
@@ -126,7 +125,7 @@ module _ {b : Start} {a x : ℕ} {cut : Time} (w : Wanted b a x cut) where
   idle3 : s3.writing ≡ None
   idle3 = h3.1 ∙ idle2
 
-  h4 : Manual t b.image true s3 s4 × (s4.writing ≡ Some (Cycle.start t, a, x))
+  h4 : Manual t b.image true s3 s4 × (s4.writing ≡ Some (stored_write t a x))
   h4 = stored_written h3.0.awake h3.0.manual h3.2 idle3 a x w.first_cell w.last_cell
 
   h5 : Asleep b.image true s5 × (s5.writing ≡ s4.writing) × (s5.i2c ≡ s4.i2c)

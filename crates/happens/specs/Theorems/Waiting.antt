@@ -1,12 +1,11 @@
 -- Next due of a sensor from its start on: its first scan, and the end of a running write.
-use Rattle.sensor.specs.Operation.{Operation}
+use Rattle.sensor.specs.Operation.{Operation, stored_write}
 use Rattle.std.specs.Prelude.{ℕ, ◌+◌, ◌^◌, ◌<◌, ◌≡◌, refl, Bool, true, false, cond, List, Option, Some, None}
 use Rattle.std.proofs.Common.{arith, ◌∙◌, lit<}
 use Rattle.std.proofs.Math.Path.{ap}
 use Rattle.time.specs.declared.Time.{Time}
 use Rattle.time.specs.Time.{ticks, lasts, plus, precedes, from_millis}
 use Rattle.nv.specs.Cell.{write_length}
-use Rattle.nv.specs.Cycle as Cycle
 use Rattle.deadlines.specs.Deadlines.{is_set, is_by, sooner, first, earliest}
 use Rattle.deadlines.specs.declared.Deadlines.{Deadlines}
 use Rattle.deadlines.proofs.Theorems.Earliest.{sooner_never}
@@ -50,12 +49,12 @@ module _ {t : Time} (high : t.0 < 2 ^ 32) (low : t.1 < 2 ^ 64) where
   wakes_later = not_by t (lasts (acquisition_delay (from_millis 3))) high low (lit< tt) (ticks t) (omega arith)
 
   -- a write ends later
-  pub ends_later : (now : Time) (a x : ℕ) → ticks now < ticks t + write_length → is_by (write_end (Some (Cycle.start t, a, x))) now ≡ false
+  pub ends_later : (now : Time) (a x : ℕ) → ticks now < ticks t + write_length → is_by (write_end (Some (stored_write t a x))) now ≡ false
   unfolding is_by write_end
   ends_later now a x l = not_by t write_length high low (lit< tt) (ticks now) l
 
   -- so one that begins now is not over
-  pub running_undue : {o : Operation} {a x : ℕ} → o ≡ Some (Cycle.start t, a, x) → is_by (write_end o) t ≡ false
+  pub running_undue : {o : Operation} {a x : ℕ} → o ≡ Some (stored_write t a x) → is_by (write_end o) t ≡ false
   running_undue {o} {a} {x} e = ap (λ (k : Operation). is_by (write_end k) t) e ∙ ends_later t a x (omega arith)
 
   module _ {image : List ℕ} {selected : Bool} {s : Sensor} (h : Awake t image selected s) where

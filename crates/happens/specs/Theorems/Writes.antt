@@ -1,12 +1,11 @@
 -- The four register writes: automatic mode off, ee_w set, a stored write begun, and sleep.
-use Rattle.sensor.specs.Operation.{Operation}
+use Rattle.sensor.specs.Operation.{stored_write}
 use Rattle.std.specs.Prelude.{ℕ, ◌<◌, ◌≤◌, ◌≡◌, Bool, List, length, set, Some, None}
 use Rattle.std.proofs.Common.{arith, sym, ◌∙◌, lit<, length-set, get_or-set_same, get_or-set_other}
 use Rattle.std.proofs.Math.Path.{refl, ap, subst}
 use Rattle.std.proofs.Math.Bool.{true, false}
 use borrow.Author.Tests.{le-leb, lt-leb}
 use Rattle.time.specs.declared.Time.{Time}
-use Rattle.nv.specs.Cycle as Cycle
 use Rattle.spi.specs.declared.types.Frame.{Frame}
 use Rattle.spi.specs.Frame as F
 use Rattle.deadlines.specs.declared.Deadlines.{Deadlines}
@@ -191,10 +190,10 @@ module _ {t : Time} {image : List ℕ} {selected : Bool} {s : Sensor} (h : Awake
   stored_kind = rw (gate_unbarred h, not_ignored, stored_here, idle)
 
   -- it runs from then on
-  pub stored_written : let u = write_register s a x t in Manual t image selected s u × (u.writing ≡ Some (Cycle.start t, a, x))
+  pub stored_written : let u = write_register s a x t in Manual t image selected s u × (u.writing ≡ Some (stored_write t a x))
   unfolding write_effect
   stored_written =
       let e : write_register s a x t ≡ begun s a x t = ap (λ (k : WriteKind). write_effect k s a x t) stored_kind in
       let left : Awake t image selected (begun s a x t) = record { on = h.on; waits = h.waits; awake = h.awake; cells = h.cells; sized = h.sized; frame = h.frame } in
-      subst (λ (u : Sensor). Manual t image selected s u × (u.writing ≡ Some (Cycle.start t, a, x))) (sym e)
+      subst (λ (u : Sensor). Manual t image selected s u × (u.writing ≡ Some (stored_write t a x))) (sym e)
       (record { awake = left; manual = manual; i2c = refl }, refl)
