@@ -3,13 +3,13 @@ use Rattle.std.specs.Prelude.{◌≡◌, Bool, true, false, ℕ, List, ◌++◌,
 use Rattle.std.proofs.Common.{arith, length-append}
 use Rattle.time.specs.declared.Time.{Time}
 use Rattle.calls.specs.declared.types.Refusal.{Refusal}
-use Rattle.calls.specs.Table.{refusal_number}
+use Rattle.calls.specs.Table.{refusal_number, number}
 use Rattle.sensor.specs.declared.types.Mark.{Mark}
 use Rattle.waits.specs.declared.types.Report.{Report}
 use Rattle.bma150.specs.Values.{report_values, view_value, mark_letter}
 use Rattle.bench.specs.Text.{hex_halves, word, view_text, mark_text, report_text, image_text, moment_text, due_text}
 use Rattle.bench.specs.Theorems.Text.{length_hexes}
-use Rattle.bench.specs.Line.{Answer, answer_number}
+use Rattle.bench.specs.Line.{Answer}
 
 refusal_fits : (why : Refusal) → length (word (refusal_number why)) ≤ 13
 unfolding word refusal_number
@@ -23,8 +23,8 @@ refusal_fits Refusal.Command = omega arith
 refusal_fits Refusal.PinJump = omega arith
 refusal_fits Refusal.ReservedCode = omega arith
 
-pub word_fits : (a : Answer) → length (word (answer_number a)) ≤ 13
-unfolding word
+pub word_fits : (a : Answer) → length (word (number a)) ≤ 13
+unfolding word number
 word_fits (Ok extra) = omega arith
 word_fits (Err why) = refusal_fits why
 

@@ -68,11 +68,6 @@ adds (Some extra) = extra_adds extra
 abbrev pub Answer : Type 0
 Answer = Result (Option Extra) Refusal
 
--- 0, or the number of the refusal
-abbrev pub answer_number : Answer → ℕ
-answer_number (Ok extra) = R.no_refusal
-answer_number (Err why) = R.refusal_number why
-
 abbrev pub answer_adds : Answer → Added
 answer_adds (Ok extra) = adds extra
 answer_adds (Err why) = Added.nothing
@@ -82,4 +77,4 @@ abbrev pub unless_refused : ℕ → Added → Added
 unless_refused n a = R.unless_refused n Added.nothing a
 
 abbrev pub replied : Reply → Called
-replied r = record { number = answer_number r.answer; sensor = r.sensor; adds = answer_adds r.answer }
+replied r = record { number = R.number r.answer; sensor = r.sensor; adds = answer_adds r.answer }

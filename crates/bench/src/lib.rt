@@ -9,7 +9,7 @@ ghost use Rattle.bench.specs.Block as B;
 use crate::steps::serve;
 use crate::text::Line;
 use bma150::host::Bma150;
-use commands::{decode, is_bad, size, wants};
+use commands::{Opcode, decode, is_bad, size, wants};
 
 mod lines;
 mod steps;
@@ -37,10 +37,11 @@ pub fn is_whole(input: &[u8], at: usize, over: bool) -> bool
 }
 
 // Whether the next due or pin command is lent, after a command with first byte b: for the trace every second one of a block is.
+#[tactic(auto, unfolding(commands::specs::Decode::opcode))]
 fn turned(trace: bool, lent: bool, b: u8) -> bool
     ensures { result ≡ (trace && cond (eqb b 5 || eqb b 9) (not lent) lent) }
 {
-    trace && lent != matches!(b, 0x05 | 0x09)
+    trace && lent != matches!(Opcode::try_from(b), Ok(Opcode::Due | Opcode::Pins))
 }
 
 // Writes a line at `at`, and answers where it ends.

@@ -65,9 +65,9 @@ fn pins(s: Bma150) -> [u8; 6]
 
 impl Line {
     // `ok`, or why the command is refused.
-    #[tactic(auto, unfolding(crate::specs::Text::word))]
+    #[tactic(auto, unfolding(crate::specs::Text::word, calls::specs::Table::number))]
     fn answer(&mut self, answer: Result<Option<Extra>, Refusal>)
-        ensures { self.new ≡ T.appended self.old (T.word (L.answer_number answer)) }
+        ensures { self.new ≡ T.appended self.old (T.word (R.number answer)) }
     {
         match answer {
             Ok(_) => self.word(b"ok"),

@@ -6,13 +6,14 @@ ghost use Rattle.calls.specs.Table as R;
 ghost use Rattle.calls.specs.declared.types.Call.TheVariants as Call;
 ghost use Rattle.calls.specs.declared.types.Timed.TheVariants as Timed;
 ghost use Rattle.bma150.specs.Called as K;
+ghost use Rattle.bma150.specs.Values as Vals;
 ghost use Rattle.bma150.specs.Lent.{DueLent};
 ghost use Rattle.bench.specs.Line as L;
 
 use crate::types::{Extra, Reply};
 use bma150::host::Bma150;
 use bma150::lent::{due_lent, pins_lent};
-use bma150::types::{Answered, Replied};
+use bma150::types::Replied;
 use calls::table::is_accepted;
 use calls::types::{Call, Refusal, Starting, Timed};
 use commands::Command;
@@ -23,7 +24,7 @@ use waits::types::Report;
 // What an accepted call adds; a refused one adds nothing.
 #[tactic(auto, unfolding(calls::specs::Table::number, calls::specs::Table::unless_refused), using(crate::proofs::Laws::refused_adds))]
 fn answer(outcome: Result<(), Refusal>, extra: Option<Extra>) -> Result<Option<Extra>, Refusal>
-    ensures number { L.answer_number result ≡ R.number outcome }
+    ensures number { R.number result ≡ R.number outcome }
     ensures adds { L.answer_adds result ≡ L.unless_refused (R.number outcome) (L.adds extra) }
 {
     outcome.map(|()| extra)
@@ -40,7 +41,8 @@ fn silent(sensor: Bma150, outcome: Result<(), Refusal>) -> Reply
     }
 }
 
-// The start of either command.
+// The start of either command. `by` and `when` are the command's, `image` is lent from its input: no struct has the three before they are
+// handed to a call, which takes two of them.
 fn begun(by: Starting, when: Time, image: &[u8]) -> Replied
     ensures outcome_value { R.number result.outcome ≡ K.start_number by when image.now }
     ensures sensor_value { result.sensor ≡ K.after_start by when image.now }
@@ -72,23 +74,32 @@ fn timed_extra(t: Timed, report: Option<Report>) -> Option<Extra>
     matches!(t, Timed::Supply(_) | Timed::Due).then_some(Extra::Reported(report))
 }
 
+// What a timed call adds, if it is accepted.
+#[tactic(auto, unfolding(calls::specs::Table::number, calls::specs::Table::unless_refused, bma150::specs::Values::report_of), using(crate::proofs::Laws::refused_adds))]
+fn timed_answer(t: Timed, answer: Result<Option<Report>, Refusal>) -> Result<Option<Extra>, Refusal>
+    ensures number { R.number result ≡ R.number answer }
+    ensures adds { L.answer_adds result ≡ L.unless_refused (R.number answer) (K.timed_adds t (Vals.report_of answer)) }
+{
+    answer.map(|report| timed_extra(t, report))
+}
+
 fn timed(sensor: Bma150, when: Time, t: Timed) -> Reply
     ensures { L.replied result ≡ K.called sensor (Call.At when t) }
 {
     let reply = sensor.timed(when, t);
     Reply {
         sensor: reply.sensor,
-        answer: answer(reply.outcome, timed_extra(t, reply.report)),
+        answer: timed_answer(t, reply.answer),
     }
 }
 
 // The reply of a lent due call that left this sensor and this answer.
-fn answered(sensor: Bma150, a: Answered) -> Reply
-    ensures { (s : Bma150) (t : Time) → DueLent s t sensor a → L.replied result ≡ K.called s (Call.At t Timed.Due) }
+fn answered(sensor: Bma150, answer: Result<Option<Report>, Refusal>) -> Reply
+    ensures { (s : Bma150) (t : Time) → DueLent s t sensor answer → L.replied result ≡ K.called s (Call.At t Timed.Due) }
 {
     Reply {
         sensor,
-        answer: answer(a.outcome, timed_extra(Timed::Due, a.report)),
+        answer: timed_answer(Timed::Due, answer),
     }
 }
 
@@ -96,8 +107,8 @@ fn answered(sensor: Bma150, a: Answered) -> Reply
 fn due_by_lending(mut sensor: Bma150, when: Time) -> Reply
     ensures { L.replied result ≡ K.called sensor (Call.At when Timed.Due) }
 {
-    let a = due_lent(&mut sensor, when);
-    answered(sensor, a)
+    let answer = due_lent(&mut sensor, when);
+    answered(sensor, answer)
 }
 
 // The pin call, over the sensor lent from here.

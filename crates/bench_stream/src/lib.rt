@@ -54,6 +54,8 @@ fn more<R: Read>(input: &mut R, kept: &mut Kept, trace: bool, t: Turn) -> Turn
 }
 
 // A block on the kept bytes. Its text is handed to `write`; a write that fails ends the loop.
+// `kept` and `out` stand apart here and below. One struct of both was tried: the length of its array is no fact after a call, so `run` would
+// have to say it in a clause of its own, and `more` would still take `kept` alone.
 fn commands<W: Write>(
     output: &mut W,
     kept: &mut Kept,

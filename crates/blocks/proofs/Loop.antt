@@ -4,7 +4,7 @@ use Rattle.std.proofs.Common.{sym, ap, subst, ◌∙◌, append_assoc, append-ni
 use Rattle.std.specs.Io.KnownBytes.{Appends, Consumes, IsAtEnd}
 use Rattle.std.proofs.KnownBytes.{Consumes-nil, Consumes-trans, Appends-nil, Appends-trans}
 use Rattle.blocks.specs.Pending.{Handed}
-use Rattle.blocks.specs.Answered.{Run, Answered}
+use Rattle.blocks.specs.Answered.{Run, Answered, BrokenOff}
 
 module _ {S : Type 0} (gives : S → List ℕ → List ℕ → S → Type 0) (n m : ℕ) (s : S) where
   -- the items are answered that were read, but for the bytes that are kept, and the answers written, but for those pending
@@ -21,6 +21,10 @@ module _ {S : Type 0} (gives : S → List ℕ → List ℕ → S → Type 0) (n 
   begun a v e f = rw (e, f) (record { items = []; answers = []; handed = []; run = Run.none; took = Consumes-nil a; wrote = Appends-nil v; rest = refl })
 
   module _ {t : S} {a b v w : Option (List ℕ)} {k p : List ℕ} (h : Upto t a b v w k p) where
+    -- the item in front taken off those that are kept
+    item_took : (item : List ℕ) → item ≡ take n k → Consumes a b ((h.items ++ item) ++ drop n k)
+    item_took item e = subst (Consumes a b) (ap (λ (l : List ℕ). h.items ++ l) (sym (take-append-drop n k) ∙ ap (λ (l : List ℕ). l ++ drop n k) (sym e)) ∙ sym (append_assoc h.items item (drop n k))) h.took
+
     -- an item more
     pub item_done : {u : S} {w' : Option (List ℕ)} {q : List ℕ} (item answer : List ℕ) → item ≡ take n k → n ≤ length k → length answer ≡ m → gives t item answer u
         → Handed w w' p answer q → Upto u a b v w' (drop n k) q
@@ -30,7 +34,7 @@ module _ {S : Type 0} (gives : S → List ℕ → List ℕ → S → Type 0) (n 
           answers = h.answers ++ answer;
           handed = h.handed ++ x.handed;
           run = Run.more item answer h.run (ap length e ∙ length-take-le n k f) g d;
-          took = subst (Consumes a b) (ap (λ (l : List ℕ). h.items ++ l) (sym (take-append-drop n k) ∙ ap (λ (l : List ℕ). l ++ drop n k) (sym e)) ∙ sym (append_assoc h.items item (drop n k))) h.took;
+          took = item_took item e;
           wrote = Appends-trans v w w' h.handed x.handed h.wrote x.wrote;
           rest = ap (λ (l : List ℕ). l ++ answer) h.rest ∙ append_assoc h.handed p answer ∙ ap (λ (l : List ℕ). h.handed ++ l) x.rest ∙ sym (append_assoc h.handed x.handed q);
         }
@@ -76,3 +80,12 @@ module _ {S : Type 0} (gives : S → List ℕ → List ℕ → S → Type 0) (n 
           over = e;
           wrote = subst (Appends v w) (sym (h.rest ∙ ap (λ (l : List ℕ). h.handed ++ l) g ∙ append-nil h.handed)) h.wrote;
         }
+
+    -- it broke off where an answer could not be put
+    pub broke_at : {u : S} (item answer : List ℕ) → item ≡ take n k → n ≤ length k → length answer ≡ m → gives t item answer u → BrokenOff gives n m s u a b
+    broke_at {u} item answer e f g d =
+        record { items = h.items ++ item; rest = drop n k; answers = h.answers ++ answer; run = Run.more item answer h.run (ap length e ∙ length-take-le n k f) g d; took = item_took item e }
+
+  -- before the loop
+  pub unbegun : (a : Option (List ℕ)) → BrokenOff gives n m s s a a
+  unbegun a = record { items = []; rest = []; answers = []; run = Run.none; took = Consumes-nil a }

@@ -17,3 +17,11 @@ pub record Answered {S : Type 0} (gives : S → List ℕ → List ℕ → S → 
   pub short : length rest < n
   pub over : IsAtEnd b
   pub wrote : Appends v w answers
+
+-- where it broke off: the machine answered items that the reader had in front, and the reader lost them and some bytes behind
+pub record BrokenOff {S : Type 0} (gives : S → List ℕ → List ℕ → S → Type 0) (n m : ℕ) (s t : S) (a b : Option (List ℕ)) : Type 0 where
+  pub items : List ℕ
+  pub rest : List ℕ
+  pub answers : List ℕ
+  pub run : Run gives n m s items answers t
+  pub took : Consumes a b (items ++ rest)

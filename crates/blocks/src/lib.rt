@@ -1,8 +1,8 @@
 // Input and output by blocks: the bytes that were read and are yet to be used, and a program that answers each item of its input.
 #![tactic(auto)]
 
-ghost use Rattle.std.specs.Prelude.{◌≤◌, ℕ, List, OnOk, ⊤};
-ghost use Rattle.blocks.specs.Answered.{Answered};
+ghost use Rattle.std.specs.Prelude.{◌≤◌, ℕ, List, OnOk, OnErr, ⊤};
+ghost use Rattle.blocks.specs.Answered.{Answered, BrokenOff};
 
 use crate::pending::Pending;
 use std::io;
@@ -23,13 +23,15 @@ pub trait Answers<const N: usize, const M: usize> {
 }
 
 // Has each item of the input answered, until it ends; bytes at its end that are no whole item are left out. Items and answers of more
-// than 65536 bytes are an error.
+// than 65536 bytes are an error. When a read or a write fails is said by no contract of std, nor what a write that failed left in its writer:
+// so `broken_off` says neither.
 pub fn drive<const N: usize, const M: usize, A: Answers<N, M>, R: Read, W: Write>(
     machine: &mut A,
     input: &mut R,
     output: &mut W,
 ) -> io::Result<()>
-    ensures { OnOk result (Answered A.gives N M machine.old machine.new (R.remaining input.old) (R.remaining input.new) (W.contents output.old) (W.contents output.new)) }
+    ensures answered { OnOk result (Answered A.gives N M machine.old machine.new (R.remaining input.old) (R.remaining input.new) (W.contents output.old) (W.contents output.new)) }
+    ensures broken_off { OnErr result (BrokenOff A.gives N M machine.old machine.new (R.remaining input.old) (R.remaining input.new)) }
 {
     if 65536 < N || 65536 < M {
         return Err(io::Error::from(io::ErrorKind::InvalidInput));

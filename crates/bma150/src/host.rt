@@ -75,7 +75,7 @@ fn effect(sensor: Sensor, now: Time, t: Timed) -> Served
     }
 }
 
-// A start by either call.
+// A start by either call. Its three parameters are what the two calls have: a struct would be made there to be taken apart here.
 fn started(by: Starting, when: Time, image: &[u8]) -> Replied
     ensures outcome_value { Table.number result.outcome ≡ C.start_number by when image.now }
     ensures sensor_value { result.sensor ≡ C.after_start by when image.now }
@@ -117,20 +117,18 @@ impl Bma150 {
     }
 
     // A timed call.
-    #[tactic(auto, unfolding(crate::specs::Values::report_values, crate::specs::Called::reported, crate::specs::Called::leaves, crate::specs::Called::adds, calls::specs::Table::unless_refused))]
+    #[tactic(auto, unfolding(crate::specs::Values::report_values, crate::specs::Values::report_of, crate::specs::Called::reported, crate::specs::Called::leaves, crate::specs::Called::adds, calls::specs::Table::unless_refused, calls::specs::Table::number), using(calls::proofs::Theorems::Values::refused_number, crate::proofs::Laws::reports_added))]
     pub fn timed(self, now: Time, t: Timed) -> Reported
-        ensures outcome_value { Table.number result.outcome ≡ (C.called self (Call.At now t)).number }
+        ensures outcome_value { Table.number result.answer ≡ (C.called self (Call.At now t)).number }
         ensures sensor_value { result.sensor ≡ (C.called self (Call.At now t)).sensor }
-        ensures report_value { Vals.report_values result.report ≡ C.reported (C.called self (Call.At now t)).adds }
+        ensures report_value { Vals.report_values (Vals.report_of result.answer) ≡ C.reported (C.called self (Call.At now t)).adds }
     {
         let s = self.sensor;
         let due = interaction_deadline(s);
-        let outcome = refusal(self.last, due, s.lines(), Call::At(now, t));
-        if !is_accepted(outcome) {
+        if let Err(why) = refusal(self.last, due, s.lines(), Call::At(now, t)) {
             return Reported {
                 sensor: self,
-                outcome,
-                report: None,
+                answer: Err(why),
             };
         }
         let after = effect(sync_local_until(s, now, false), now, t);
@@ -139,8 +137,7 @@ impl Bma150 {
                 sensor: after.sensor,
                 last: now,
             },
-            outcome,
-            report: after.report,
+            answer: Ok(after.report),
         }
     }
 
@@ -162,17 +159,17 @@ impl Bma150 {
     }
 
     pub fn supply(self, now: Time, rail: u16) -> Reported
-        ensures outcome_value { Table.number result.outcome ≡ (C.called self (Call.At now (Timed.Supply rail))).number }
+        ensures outcome_value { Table.number result.answer ≡ (C.called self (Call.At now (Timed.Supply rail))).number }
         ensures sensor_value { result.sensor ≡ (C.called self (Call.At now (Timed.Supply rail))).sensor }
-        ensures report_value { Vals.report_values result.report ≡ C.reported (C.called self (Call.At now (Timed.Supply rail))).adds }
+        ensures report_value { Vals.report_values (Vals.report_of result.answer) ≡ C.reported (C.called self (Call.At now (Timed.Supply rail))).adds }
     {
         self.timed(now, Timed::Supply(rail))
     }
 
     pub fn due(self, now: Time) -> Reported
-        ensures outcome_value { Table.number result.outcome ≡ (C.called self (Call.At now Timed.Due)).number }
+        ensures outcome_value { Table.number result.answer ≡ (C.called self (Call.At now Timed.Due)).number }
         ensures sensor_value { result.sensor ≡ (C.called self (Call.At now Timed.Due)).sensor }
-        ensures report_value { Vals.report_values result.report ≡ C.reported (C.called self (Call.At now Timed.Due)).adds }
+        ensures report_value { Vals.report_values (Vals.report_of result.answer) ≡ C.reported (C.called self (Call.At now Timed.Due)).adds }
     {
         self.timed(now, Timed::Due)
     }

@@ -3,20 +3,18 @@ ghost use Rattle.std.specs.Prelude.{◌≡◌};
 ghost use Rattle.bma150.specs.Lent.{DueLent, PinsLent};
 
 use crate::host::Bma150;
-use crate::types::Answered;
+use crate::types::Reported;
 use calls::types::Refusal;
 use i2c::types::Levels;
 use time::Time;
+use waits::types::Report;
 
-pub fn due_lent(s: &mut Bma150, when: Time) -> Answered
+pub fn due_lent(s: &mut Bma150, when: Time) -> Result<Option<Report>, Refusal>
     ensures { DueLent s.old when s.new result }
 {
-    let r = s.due(when);
-    *s = r.sensor;
-    Answered {
-        outcome: r.outcome,
-        report: r.report,
-    }
+    let Reported { sensor, answer } = s.due(when);
+    *s = sensor;
+    answer
 }
 
 pub fn pins_lent(s: &mut Bma150, when: Time, before: Levels, after: Levels) -> Result<(), Refusal>

@@ -1,5 +1,6 @@
 // What the calls answer.
 ghost use Rattle.std.specs.Prelude.{◌≡◌};
+ghost use Rattle.calls.specs.Table as Table;
 
 use crate::host::Bma150;
 use calls::types::Refusal;
@@ -12,29 +13,22 @@ pub struct Replied {
     pub outcome: Result<(), Refusal>,
 }
 
-// Those of a call that may report the end of a stored write.
+// The sensor and the answer of a call that may report the end of a stored write, if it is accepted.
 #[derive(Clone, Copy)]
 pub struct Reported {
     pub sensor: Bma150,
-    pub outcome: Result<(), Refusal>,
-    pub report: Option<Report>,
+    pub answer: Result<Option<Report>, Refusal>,
 }
 
 // A reply without the report.
 impl From<Reported> for Replied {
-    ghost from_gives = { λ r p. (p.sensor ≡ r.sensor) × (p.outcome ≡ r.outcome) };
+    ghost from_gives = { λ r p. (p.sensor ≡ r.sensor) × (Table.number p.outcome ≡ Table.number r.answer) };
 
+    #[tactic(auto, unfolding(calls::specs::Table::number))]
     fn from(r: Reported) -> Replied {
         Replied {
             sensor: r.sensor,
-            outcome: r.outcome,
+            outcome: r.answer.map(|_| ()),
         }
     }
-}
-
-// The answer of a lent due call: the sensor stays where the host keeps it.
-#[derive(Clone, Copy)]
-pub struct Answered {
-    pub outcome: Result<(), Refusal>,
-    pub report: Option<Report>,
 }

@@ -66,7 +66,7 @@ refusal_number Refusal.ReservedCode = reserved_code
 abbrev pub Outcome : Type 0
 Outcome = Result (Unit {0}) Refusal
 
-unfoldable pub number : Outcome → ℕ
+unfoldable pub number : {A : Type 0} → Result A Refusal → ℕ
 number (Ok _) = no_refusal
 number (Err why) = refusal_number why
 

@@ -4,7 +4,6 @@ use Prim.Native.Nat.{ℕ}
 use mathlib.Core.Path.{◌≡◌, refl, sym, ap, subst, ◌∙◌}
 use mathlib.Core.Bool.{Bool, true, false, cond}
 use mathlib.Core.List.{List, []}
-use lib.Dec.{eqb}
 use lib.ListN.{length, replicate, length-replicate}
 use seplogic.Ra.Ura.{Ura}
 use base.Logic.{SProp}
@@ -23,6 +22,7 @@ use Rattle.calls.specs.declared.types.Refusal.{Refusal}
 use Rattle.calls.specs.Table.{Outcome}
 use Rattle.calls.specs.Facts.{facts}
 use Rattle.calls.specs.Table as T
+use Rattle.calls.proofs.Theorems.Values.{refused_number}
 use Rattle.calls.proofs.Theorems.Left.{temperature_accepted, select_accepted, view_accepted}
 use Rattle.sensor.specs.RegisterReads.{viewed}
 use Rattle.samples.specs.Samples.{interaction_deadline}
@@ -30,7 +30,8 @@ use Rattle.waits.specs.declared.types.Report.{Report}
 use Rattle.bma150.specs.declared.types.Replied.{Replied}
 use Rattle.bma150.specs.declared.types.Reported.{Reported}
 use Rattle.bma150.specs.declared.host.Bma150.{Bma150}
-use Rattle.bma150.specs.Values.{report_values}
+use Rattle.bma150.specs.Values as Vals
+use Rattle.bma150.specs.Values.{report_values, report_of}
 use Rattle.bma150.specs.Called.{Added, reported, of_view, put_in, timed_adds, served, leaves, adds, number, called, measurement_of, start_number, after_start, interrupt, output, data_output}
 use Rattle.bma150.proofs.Theorems.Values.{drive_letter_injective}
 use Rattle.bma150.proofs.Theorems.Added.{reported_is, silent_is, buffer_is, image_leaves, view_leaves, view_adds}
@@ -74,18 +75,18 @@ answer_is s c t n a o p e en ea =
 pub served_is : {s t : Bma150} {c : Call} {a : Answer} → Serves s c t a → (t ≡ step s c) × (a ≡ answer s c)
 unfolding timed_adds adds leaves T.unless_refused
 served_is {s} (Serves.timed {now = now} {t = t} r o p q) =
-    (p.1.0, answer_is s (Call.At now t) r.sensor _ _ o q p.1.0 p.0 (reported_is s now t _ r.report p.0 p.1.1))
-served_is {s} (Serves.accelerations {now = now} {x = x} {y = y} {z = z} r o p q) =
+    (p.1.0, answer_is s (Call.At now t) r.sensor _ _ o q p.1.0 p.0 (reported_is s now t _ (report_of r.answer) p.0 p.1.1))
+served_is {s} (Serves.accelerations {now = now} {input = input} r o p q) =
     (p.1, answer_is s (Call.At now (Timed.Accelerations input)) r.sensor _ _ o q p.1 p.0 (silent_is s now (Timed.Accelerations input) _ p.0 refl))
 served_is {s} (Serves.temperature {m = m} t o p q) =
     let e = temperature_accepted s.last (interaction_deadline s.sensor) s.sensor.kept.lines m in
     (p, answer_is s (Call.Temperature m) t _ _ o q p (sym e) (sym (ap (λ (n : ℕ). T.unless_refused n Added.nothing Added.nothing) e)))
 served_is {s} (Serves.supply {now = now} {rail = rail} r o p q) =
-    (p.1.0, answer_is s (Call.At now (Timed.Supply rail)) r.sensor _ _ o q p.1.0 p.0 (reported_is s now (Timed.Supply rail) _ r.report p.0 p.1.1))
+    (p.1.0, answer_is s (Call.At now (Timed.Supply rail)) r.sensor _ _ o q p.1.0 p.0 (reported_is s now (Timed.Supply rail) _ (report_of r.answer) p.0 p.1.1))
 served_is {s} (Serves.due {now = now} r o p q) =
-    (p.1.0, answer_is s (Call.At now Timed.Due) r.sensor _ _ o q p.1.0 p.0 (reported_is s now Timed.Due _ r.report p.0 p.1.1))
+    (p.1.0, answer_is s (Call.At now Timed.Due) r.sensor _ _ o q p.1.0 p.0 (reported_is s now Timed.Due _ (report_of r.answer) p.0 p.1.1))
 served_is {s} (Serves.due_lent {now = now} t r o p q) =
-    (p.leaves, answer_is s (Call.At now Timed.Due) t _ _ o q p.leaves p.answers (reported_is s now Timed.Due _ r.report p.answers p.reports))
+    (p.leaves, answer_is s (Call.At now Timed.Due) t _ _ o q p.leaves p.answers (reported_is s now Timed.Due _ (report_of r) p.answers p.reports))
 served_is {s} (Serves.select {on = on} t o p q) =
     let e = select_accepted s.last (interaction_deadline s.sensor) s.sensor.kept.lines on in
     (p, answer_is s (Call.Select on) t _ _ o q p (sym e) (sym (ap (λ (n : ℕ). T.unless_refused n Added.nothing Added.nothing) e)))
@@ -159,20 +160,23 @@ timed_report (Timed.Rising mosi) q = (None, refl)
 timed_report Timed.Falling q = (None, refl)
 timed_report (Timed.Pins before after) q = (None, refl)
 
-report_of : (s : Bma150) (now : Time) (t : Timed) → (r : Option Report) × (report_values r ≡ reported (called s (Call.At now t)).adds)
-unfolding T.unless_refused adds reported report_values
-report_of s now t = go (eqb (number s (Call.At now t)) 0)
+-- an answer with the number and the values of the definitions
+abbrev Says : Bma150 → Time → Timed → Vals.Answer → Type 0
+Says s now t a = (T.number a ≡ number s (Call.At now t)) × (report_values (report_of a) ≡ reported (called s (Call.At now t)).adds)
+
+answer_of : (s : Bma150) (now : Time) (t : Timed) → (a : Vals.Answer) × Says s now t a
+unfolding T.number T.unless_refused adds reported report_values report_of
+answer_of s now t = go (outcome_of s.last (interaction_deadline s.sensor) s.sensor.kept.lines (Call.At now t))
   where
-    go : (b : Bool) → (r : Option Report) × (report_values r ≡ reported (cond b (timed_adds t (served s now t).report) Added.nothing))
-    go true = timed_report t (served s now t).report
-    go false = (None, refl)
+    go : (o : Outcome) × (T.number o ≡ number s (Call.At now t)) → (a : Vals.Answer) × Says s now t a
+    go (Ok _, e) = let w = timed_report t (served s now t).report in (Ok w.0, (e, rw (← e) w.1))
+    go (Err why, e) = (Err why, (e, rw (← e, refused_number why) refl))
 
 pub replies : (s : Bma150) (c : Call) → (t : Bma150) × (a : Answer) × Serves s c t a
 replies s (Call.At now t) =
-    let u = outcome_of s.last (interaction_deadline s.sensor) s.sensor.kept.lines (Call.At now t) in
-    let w = report_of s now t in
-    let r : Reported = record { sensor = step s (Call.At now t); outcome = u.0; report = w.0 } in
-    (r.sensor, replied u.0 t w.0 (seen r.sensor), Serves.timed r (seen r.sensor) (u.1, (refl, w.1)) (observed r.sensor))
+    let w = answer_of s now t in
+    let r : Reported = record { sensor = step s (Call.At now t); answer = w.0 } in
+    (r.sensor, replied w.0 t (report_of w.0) (seen r.sensor), Serves.timed r (seen r.sensor) (w.1.0, (refl, w.1.1)) (observed r.sensor))
 replies s (Call.Temperature m) =
     let t = step s (Call.Temperature m) in
     (t, accepted Added.nothing (seen t), Serves.temperature t (seen t) refl (observed t))
@@ -241,10 +245,9 @@ lent_too = record {
   due_says = λ 𝓛 memory run κs s t now r. refl;
   pins_says = λ 𝓛 memory run κs s t now before after r. refl;
   due = λ s now.
-      let u = outcome_of s.last (interaction_deadline s.sensor) s.sensor.kept.lines (Call.At now Timed.Due) in
-      let w = report_of s now Timed.Due in
+      let w = answer_of s now Timed.Due in
       let t = step s (Call.At now Timed.Due) in
-      (t, record { outcome = u.0; report = w.0 }, seen t, record { answers = u.1; leaves = refl; reports = w.1 }, observed t);
+      (t, w.0, seen t, record { answers = w.1.0; leaves = refl; reports = w.1.1 }, observed t);
   pins = λ s now before after.
       let u = outcome_of s.last (interaction_deadline s.sensor) s.sensor.kept.lines (Call.At now (Timed.Pins before after)) in
       let t = step s (Call.At now (Timed.Pins before after)) in

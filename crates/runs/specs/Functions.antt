@@ -1,5 +1,5 @@
 -- The code as a host: the replies that the contracts of its public functions allow; that each contract is met on the machine; and that none asks anything.
-use Rattle.std.specs.Prelude.{ℕ, ◌≡◌, Bool, List, ℤ, length, Option, None}
+use Rattle.std.specs.Prelude.{ℕ, ◌≡◌, Bool, List, ℤ, length, Option, None, Result}
 use seplogic.Ra.Ura.{Ura}
 use base.Logic.{SProp, emp}
 use prog.Memory.{Memory}
@@ -18,14 +18,15 @@ use Rattle.spi.specs.declared.types.Drive.{Drive}
 use Rattle.calls.specs.declared.types.Timed.{Timed}
 use Rattle.calls.specs.declared.types.Call.{Call}
 use Rattle.calls.specs.declared.types.Starting.TheVariants as Starting
+use Rattle.calls.specs.declared.types.Refusal.{Refusal}
 use Rattle.calls.specs.Table.{Outcome}
 use Rattle.calls.specs.Table as T
 use Rattle.sensor.specs.declared.types.Viewed.{Viewed}
 use Rattle.waits.specs.declared.types.Report.{Report}
 use Rattle.bma150.specs.declared.types.Replied.{Replied}
 use Rattle.bma150.specs.declared.types.Reported.{Reported}
-use Rattle.bma150.specs.declared.types.Answered.{Answered}
 use Rattle.bma150.specs.declared.host.Bma150.{Bma150}
+use Rattle.bma150.specs.Values as Vals
 use Rattle.bma150.specs.Called.{Added, of_view, timed_adds}
 use Rattle.bma150.specs.Lent.{DueLent, PinsLent}
 use Rattle.book.specs.Lists.{Answer, Start}
@@ -106,7 +107,7 @@ abbrev pub answered : ℕ → Added → Pins → Answer
 answered n a o = record { number = n; interrupt = o.interrupt; output = o.output; data_output = o.data_output; adds = a; next_due = o.next_due }
 
 -- of a timed call: supply and due calls add their report, if they are accepted
-abbrev pub replied : Outcome → Timed → Option Report → Pins → Answer
+abbrev pub replied : {A : Type 0} → Result A Refusal → Timed → Option Report → Pins → Answer
 replied u t r o = answered (T.number u) (T.unless_refused (T.number u) Added.nothing (timed_adds t r)) o
 
 -- of a call without a refusal
@@ -120,18 +121,18 @@ handed u b o = answered (T.number u) (T.unless_refused (T.number u) Added.nothin
 -- the replies of each call: those that the contracts allow of the functions that serve it. The due and the pin call are served by value and lent, every timed call by its own function and by `timed`
 pub data Serves : Bma150 → Call → Bma150 → Answer → Type 0 where
   timed : {s : Bma150} {now : Time} {t : Timed} (r : Reported) (o : Pins) → timed_reads.Post tt (s, (now, (t, tt))) r (s, (now, (t, tt))) → Observed r.sensor o
-      → Serves s (Call.At now t) r.sensor (replied r.outcome t r.report o)
+      → Serves s (Call.At now t) r.sensor (replied r.answer t (Vals.report_of r.answer) o)
   accelerations : {s : Bma150} {now : Time} {input : Acceleration} (r : Replied) (o : Pins)
-      → accelerations_reads.Post tt (s, (now, (x, (y, (z, tt))))) r (s, (now, (x, (y, (z, tt))))) → Observed r.sensor o
+      → accelerations_reads.Post tt (s, (now, (input, tt))) r (s, (now, (input, tt))) → Observed r.sensor o
       → Serves s (Call.At now (Timed.Accelerations input)) r.sensor (replied r.outcome (Timed.Accelerations input) None o)
   temperature : {s : Bma150} {m : ℤ} (t : Bma150) (o : Pins) → temperature_reads.Post tt (s, (m, tt)) t (s, (m, tt)) → Observed t o
       → Serves s (Call.Temperature m) t (accepted Added.nothing o)
   supply : {s : Bma150} {now : Time} {rail : ℕ} (r : Reported) (o : Pins) → supply_reads.Post tt (s, (now, (rail, tt))) r (s, (now, (rail, tt))) → Observed r.sensor o
-      → Serves s (Call.At now (Timed.Supply rail)) r.sensor (replied r.outcome (Timed.Supply rail) r.report o)
+      → Serves s (Call.At now (Timed.Supply rail)) r.sensor (replied r.answer (Timed.Supply rail) (Vals.report_of r.answer) o)
   due : {s : Bma150} {now : Time} (r : Reported) (o : Pins) → due_reads.Post tt (s, (now, tt)) r (s, (now, tt)) → Observed r.sensor o
-      → Serves s (Call.At now Timed.Due) r.sensor (replied r.outcome Timed.Due r.report o)
-  due_lent : {s : Bma150} {now : Time} (t : Bma150) (r : Answered) (o : Pins) → DueLent s now t r → Observed t o
-      → Serves s (Call.At now Timed.Due) t (replied r.outcome Timed.Due r.report o)
+      → Serves s (Call.At now Timed.Due) r.sensor (replied r.answer Timed.Due (Vals.report_of r.answer) o)
+  due_lent : {s : Bma150} {now : Time} (t : Bma150) (r : Vals.Answer) (o : Pins) → DueLent s now t r → Observed t o
+      → Serves s (Call.At now Timed.Due) t (replied r Timed.Due (Vals.report_of r) o)
   select : {s : Bma150} {on : Bool} (t : Bma150) (o : Pins) → select_reads.Post tt (s, (on, tt)) t (s, (on, tt)) → Observed t o
       → Serves s (Call.Select on) t (accepted Added.nothing o)
   rising : {s : Bma150} {now : Time} {mosi : Bool} (r : Replied) (o : Pins) → rising_reads.Post tt (s, (now, (mosi, tt))) r (s, (now, (mosi, tt))) → Observed r.sensor o
@@ -160,11 +161,11 @@ pub data Begins : Start → Bma150 → Answer → Type 0 where
 
 -- what the contracts of the lent calls say is `DueLent` and `PinsLent`, and there is such a reply whatever the sensor and the arguments
 pub record LentToo : Type 2 where
-  pub due_says : {M : Type 1} {𝓤 : Ura M} (𝓛 : Logic 𝓤) (memory : Memory → SProp 𝓤) (run : Routine → Fun 𝓤) (κs : Lfts 1) (s t : MutBor Bma150) (now : Time) (r : Answered)
+  pub due_says : {M : Type 1} {𝓤 : Ura M} (𝓛 : Logic 𝓤) (memory : Memory → SProp 𝓤) (run : Routine → Fun 𝓤) (κs : Lfts 1) (s t : MutBor Bma150) (now : Time) (r : Vals.Answer)
       → (due_lent_function.clauses 𝓛 memory run κs (s, (now, tt))).ensures tt r (t, (now, tt)) ≡ fact 𝓤 (DueLent s.now now t.now r)
   pub pins_says : {M : Type 1} {𝓤 : Ura M} (𝓛 : Logic 𝓤) (memory : Memory → SProp 𝓤) (run : Routine → Fun 𝓤) (κs : Lfts 1) (s t : MutBor Bma150) (now : Time) (before after : Levels) (r : Outcome)
       → (pins_lent_function.clauses 𝓛 memory run κs (s, (now, (before, (after, tt))))).ensures tt r (t, (now, (before, (after, tt)))) ≡ fact 𝓤 (PinsLent s.now now before after t.now r)
-  pub due : (s : Bma150) (now : Time) → (t : Bma150) × (r : Answered) × (o : Pins) × DueLent s now t r × Observed t o
+  pub due : (s : Bma150) (now : Time) → (t : Bma150) × (r : Vals.Answer) × (o : Pins) × DueLent s now t r × Observed t o
   pub pins : (s : Bma150) (now : Time) (before after : Levels) → (t : Bma150) × (r : Outcome) × (o : Pins) × PinsLent s now before after t r × Observed t o
 
 -- ---- every public function's own statement on the machine

@@ -1,15 +1,16 @@
 use Rattle.std.specs.Prelude.{◌<◌, ◌≤◌, length, take}
 use Rattle.std.proofs.Common.{arith, ap, ◌∙◌, length-append}
 use Rattle.std.proofs.Common.{rules}
-use Rattle.blocks.proofs.Loop.{begun, item_done, flushed, filled, done}
+use Rattle.std.proofs.lemmas.Result.{err_from_is_err_and}
+use Rattle.blocks.proofs.Loop.{begun, item_done, flushed, filled, done, broke_at, unbegun}
 use Rattle.blocks.proofs.drive.Goals as goal
 use Rattle.blocks.proofs.drive.Goals.{in-Some+in_ok-put-in-Some, in-None+in_ok-flush-in-None+in_ok-fill-in-None+else-branch-eq0}
 
 pub loop-init : goal.loop-init
 loop-init g c = begun _ _ _ _ _ _ c.new-kept.ensures c.new-pending.ensures
 
-pub returns-then-branch-eq0 : goal.returns-then-branch-eq0
-returns-then-branch-eq0 g c =
+pub returns-then-branch-eq0-clause-answered : goal.returns-then-branch-eq0-clause-answered
+returns-then-branch-eq0-clause-answered g c =
     let x = c.in_ok-flush-in-None.ensures in
     let y = c.in_ok-fill-in-None.ensures in
     let none = c.if-branch-eq0.true in
@@ -27,3 +28,12 @@ loop-preserved g c = elim c.match-first_chunk.branch [
       let y = w.in_ok-fill-in-None.ensures in
       rw (w.machine-is, w.input-is, w.output-is, w.kept-is, w.pending-is) (filled _ _ _ _ (flushed _ _ _ _ c.loop.invariant x.taken x.none_left) y.0 y.1 y.3)
 ]
+
+pub returns-then-this-gt65536-clause-broken_off : goal.returns-then-this-gt65536-clause-broken_off
+returns-then-this-gt65536-clause-broken_off g c = unbegun _ _ _ _ _
+
+pub returns-in_err-put-in-Some-clause-broken_off : goal.returns-in_err-put-in-Some-clause-broken_off
+returns-in_err-put-in-Some-clause-broken_off g c =
+    let h = c.in-Some.ensures.cases in
+    rw (err_from_is_err_and c.from_residual.result c.from_residual.ensures.1).1
+    (broke_at _ _ _ _ c.loop.invariant c.in-Some.item.now c.answer.result (h.same ∙ ap (take g.row.N) c.bytes.ensures) (rw c.bytes.ensures at h.enough) (search rules) c.answer.ensures)

@@ -1,8 +1,9 @@
 use Rattle.std.specs.Prelude.{◌≡◌, List, ℕ, [], ◌∷◌, ◌++◌, ◌≤◌, length}
 use Rattle.std.proofs.Common.{arith, ap, ◌∙◌, length-append}
+use Rattle.calls.specs.Table.{number}
 use Rattle.bma150.specs.Called.{next_due}
 use Rattle.bench.specs.Text.{space, hex, word, due_text, appended}
-use Rattle.bench.specs.Line.{line, pins, answer_number, answer_adds, added_text}
+use Rattle.bench.specs.Line.{line, pins, answer_adds, added_text}
 use Rattle.bench.proofs.Appended.{all, begun, went_on}
 use Rattle.bench.proofs.Fits.{word_fits, due_fits}
 use Rattle.bench.proofs.text.Line.reply.Goals as goal
@@ -12,7 +13,7 @@ unfolding line
 returns c =
     let r = c.args.reply in
     let front : List ℕ = hex c.args.b ++ (space ∷ []) in
-    let name : List ℕ = word (answer_number r.answer) in
+    let name : List ℕ = word (number r.answer) in
     let added : List ℕ = added_text (answer_adds r.answer) in
     let due : List ℕ = due_text c.args.trace (next_due r.sensor) in
     let six : length (pins r.sensor) ≡ 6 = unfold pins in omega arith in
