@@ -33,43 +33,21 @@ fn at(kind: Kind, now: Time) -> Facts
     }
 }
 
-// A call that brings bytes at a time, and is none of 01's timed calls.
-fn bringing(now: Time, n: usize) -> Facts
-    ensures { result ≡ F.bringing now n }
-{
-    Facts {
-        bytes: Some(n),
-        ..at(Kind::Untimed, now)
-    }
-}
-
-fn setting(now: Time, input: Acceleration) -> Facts
-    ensures { result ≡ F.setting now input }
-{
-    Facts {
-        axes: Some(input),
-        ..at(Kind::Timed, now)
-    }
-}
-
-fn reporting(now: Time, before: Levels) -> Facts
-    ensures { result ≡ F.reporting now before }
-{
-    Facts {
-        lines: Some(before),
-        ..at(Kind::Timed, now)
-    }
-}
-
 #[tactic(auto, unfolding(crate::specs::Facts::timed_facts))]
 fn timed_facts(now: Time, t: Timed) -> Facts
     ensures { result ≡ F.timed_facts now t }
 {
     match t {
-        Timed::Accelerations(input) => setting(now, input),
+        Timed::Accelerations(input) => Facts {
+            axes: Some(input),
+            ..at(Kind::Timed, now)
+        },
         Timed::Supply(_) | Timed::Rising(_) | Timed::Falling => at(Kind::Timed, now),
         Timed::Due => at(Kind::Due, now),
-        Timed::Pins(before, _) => reporting(now, before),
+        Timed::Pins(before, _) => Facts {
+            lines: Some(before),
+            ..at(Kind::Timed, now)
+        },
     }
 }
 
@@ -80,7 +58,10 @@ fn facts(c: Call) -> Facts
     match c {
         Call::At(now, t) => timed_facts(now, t),
         Call::Temperature(_) | Call::Select(_) | Call::View(_) => untimed(),
-        Call::StoredImage(now, n) => bringing(now, n),
+        Call::StoredImage(now, n) => Facts {
+            bytes: Some(n),
+            ..at(Kind::Untimed, now)
+        },
     }
 }
 
