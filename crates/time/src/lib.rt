@@ -102,8 +102,8 @@ impl Duration {
         Duration::from_ticks(self.ticks().saturating_sub(other.ticks()))
     }
 
-    // n of the N equal parts of a second, rounded down to units. `(u128::from(n) << 64) / N` is proved too, but that
-    // division takes 45 ns where this takes 5, and each sample phase, of 63 ns, asks for an edge.
+    // n of the N equal parts of a second, rounded down to units. One division of n << 64 by N is proved too, but in 128 bits
+    // it takes 45 ns where this takes 5, and each sample phase, of 63 ns, asks for an edge.
     fn of_parts<const N: u64>(n: u64) -> Duration
         requires { (1 < N) × (N < 2 ^ 32) }
         ensures { result ≡ T.duration (n * 2 ^ 64 / N) }
