@@ -1,8 +1,7 @@
 -- A line's text, one piece after the other, as far as it has room.
-use Rattle.std.specs.Prelude.{◌≡◌, refl, List, [], ◌∷◌, ◌++◌, ℕ, zero, suc, ◌+◌, ◌-◌, ◌≤◌, ◌<◌, length, take, get_or, set}
-use Rattle.std.proofs.Common.{sym, ap, ◌∙◌, append_assoc, append-nil, arith, length-append, length-take-le}
+use Rattle.std.specs.Prelude.{◌≡◌, refl, List, [], ◌∷◌, ◌++◌, ℕ, zero, suc, ◌+◌, ◌-◌, ◌≤◌, ◌<◌, length, take, get_or}
+use Rattle.std.proofs.Common.{ap, ◌∙◌, append_assoc, append-nil, arith, length-append}
 use Rattle.std.proofs.Math.Seq.{take-nil}
-use Rattle.std.proofs.lemmas.List.{take_more_set}
 use Rattle.machine.proofs.Theorems.Put.{one_more}
 use Rattle.bench.specs.Text.{appended, hex, hexes}
 use Rattle.bench.specs.Theorems.Text.{one_more_hex}
@@ -38,19 +37,13 @@ unfolding appended
 all l h = take_short 128 l h
 
 -- a byte for which there is room, and one for which there is none
-pub put_there : (d : List ℕ) (n b : ℕ) → n < 128 → length d ≡ 128 → appended (take n d) (b ∷ []) ≡ take (n + 1) (set d n b)
+pub put_there : (l : List ℕ) (b : ℕ) → length l < 128 → appended l (b ∷ []) ≡ l ++ (b ∷ [])
 unfolding appended
-put_there d n b h e =
-    let k : length (take n d) ≡ n = length-take-le n d (omega arith) in
-    let short : length (b ∷ []) ≤ 128 - n = omega arith in
-    rw (k, take_short (128 - n) (b ∷ []) short) (sym (take_more_set d n b (omega arith)))
+put_there l b h = let short : length (b ∷ []) ≤ 128 - length l = omega arith in ap (λ (r : List ℕ). l ++ r) (take_short (128 - length l) (b ∷ []) short)
 
-pub put_full : (d : List ℕ) (n b : ℕ) → 128 ≤ n → n ≤ 128 → length d ≡ 128 → appended (take n d) (b ∷ []) ≡ take n d
+pub put_full : (l : List ℕ) (b : ℕ) → length l ≡ 128 → appended l (b ∷ []) ≡ l
 unfolding appended
-put_full d n b h g e =
-    let k : length (take n d) ≡ n = length-take-le n d (omega arith) in
-    let z : 128 - n ≡ 0 = omega arith in
-    rw (k, z) (append-nil (take n d))
+put_full l b h = let z : 128 - length l ≡ 0 = omega arith in rw z (append-nil l)
 
 -- the bytes of a word, one after the other
 pub word_step : (l w : List ℕ) (i : ℕ) → i < length w → appended (appended l (take i w)) (get_or w i 0 ∷ []) ≡ appended l (take (i + 1) w)

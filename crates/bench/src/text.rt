@@ -2,23 +2,19 @@
 ghost use Rattle.std.specs.Prelude.{◌≡◌, ◌≤◌, ◌<◌, [], ◌∷◌, length};
 ghost use Rattle.bench.specs.Text as T;
 
+use arrayvec::ArrayVec;
 use std::marker::Model;
 
 // The text of a line. It has room for 128 bytes: what goes beyond them is left out, and no line does (`reply`).
 #[derive(Drop)]
-pub(crate) struct Line {
-    bytes: [u8; 128],
-    len: usize,
-}
+pub(crate) struct Line(ArrayVec<u8, 128>);
 
 impl Model for Line {
-    ghost use Rattle.std.specs.Prelude.{ℕ, ◌≤◌, List, take};
+    ghost use Rattle.std.specs.Prelude.{ℕ, List};
 
     ghost Value = { List ℕ };
 
-    ghost view = { λ l. take l.len l.bytes };
-
-    ghost invariant = { λ l. l.len ≤ 128 };
+    ghost view = { λ l. l.0.items };
 }
 
 fn digit(x: u8) -> u8
@@ -32,26 +28,22 @@ impl Line {
     pub(crate) fn new() -> Line
         ensures { result ≡ [] }
     {
-        Line {
-            bytes: [0; 128],
-            len: 0,
-        }
+        Line(ArrayVec::new())
     }
 
     pub(crate) fn text(&self) -> &[u8]
         ensures value { result.now ≡ self.now }
         ensures fits { length result.now ≤ 128 }
     {
-        &self.bytes[..self.len]
+        self.0.as_slice()
     }
 
     #[tactic(auto, using(crate::proofs::Appended::put_there, crate::proofs::Appended::put_full))]
     pub(crate) fn put(&mut self, b: u8)
         ensures { self.new ≡ T.appended self.old (b ∷ []) }
     {
-        if self.len < 128 {
-            self.bytes[self.len] = b;
-            self.len += 1;
+        if !self.0.is_full() {
+            self.0.push(b);
         }
     }
 

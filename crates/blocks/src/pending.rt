@@ -1,51 +1,29 @@
 // The bytes that are yet to be written.
-ghost use Rattle.std.specs.Prelude.{◌≡◌, ◌+◌, ◌≤◌, ◌++◌, [], length, OnOk};
+ghost use Rattle.std.specs.Prelude.{◌≡◌, ◌≤◌, [], length, OnOk};
 ghost use Rattle.std.specs.Io.KnownBytes.{Appends};
 ghost use Rattle.blocks.specs.Pending.{Handed};
 
+use arrayvec::ArrayVec;
 use std::io;
 use std::io::Write;
 use std::marker::Model;
 
 #[derive(Drop)]
-pub(crate) struct Pending {
-    bytes: [u8; 65536],
-    len: usize,
-}
+pub(crate) struct Pending(ArrayVec<u8, 65536>);
 
 impl Model for Pending {
-    ghost use Rattle.std.specs.Prelude.{ℕ, ◌≤◌, List, take};
+    ghost use Rattle.std.specs.Prelude.{ℕ, List};
 
     ghost Value = { List ℕ };
 
-    ghost view = { λ p. take p.len p.bytes };
-
-    ghost invariant = { λ p. p.len ≤ 65536 };
+    ghost view = { λ p. p.0.items };
 }
 
 impl Pending {
     pub(crate) fn new() -> Pending
         ensures { result ≡ [] }
     {
-        Pending {
-            bytes: [0; 65536],
-            len: 0,
-        }
-    }
-
-    fn len(&self) -> usize
-        ensures { result ≡ length self.now }
-    {
-        self.len
-    }
-
-    fn append(&mut self, text: &[u8])
-        requires { length self.old + length text.now ≤ 65536 }
-        ensures { self.new ≡ self.old ++ text.now }
-    {
-        let end = self.len + text.len();
-        self.bytes[self.len..end].copy_from_slice(text);
-        self.len = end;
+        Pending(ArrayVec::new())
     }
 
     // Hands them to the writer.
@@ -53,8 +31,8 @@ impl Pending {
         ensures taken { OnOk result (Appends (W.contents output.old) (W.contents output.new) self.old) }
         ensures none_left { OnOk result (self.new ≡ []) }
     {
-        output.write_all(&self.bytes[..self.len])?;
-        self.len = 0;
+        output.write_all(self.0.as_slice())?;
+        self.0.clear();
         Ok(())
     }
 
@@ -63,10 +41,11 @@ impl Pending {
         requires { length text.now ≤ 65536 }
         ensures { OnOk result (Handed (W.contents output.old) (W.contents output.new) self.old text.now self.new) }
     {
-        if 65536 - text.len() < self.len() {
+        if self.0.try_extend_from_slice(text).is_err() {
             self.flush(output)?;
+            // There is room now.
+            let _ = self.0.try_extend_from_slice(text);
         }
-        self.append(text);
         Ok(())
     }
 }
