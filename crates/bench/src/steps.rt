@@ -144,7 +144,7 @@ fn view(sensor: Bma150, address: u8) -> Reply
 }
 
 // Into a buffer of 19 bytes; another length is refused as the call refuses it.
-#[tactic(auto, unfolding(calls::specs::Table::number, calls::specs::Table::refusal_number, crate::specs::Line::extra_adds))]
+#[tactic(auto, unfolding(calls::specs::Table::number, calls::specs::Table::refusal_number, crate::specs::Line::extra_adds), using(crate::proofs::Laws::called_is, crate::proofs::Laws::wrong_buffer, bma150::proofs::Theorems::Added::image_leaves, bma150::proofs::Theorems::Added::buffer_is))]
 fn stored_image(sensor: Bma150, when: Time, length: usize) -> Reply
     ensures { L.replied result ≡ K.called sensor (Call.StoredImage when length) }
 {
@@ -159,7 +159,7 @@ fn stored_image(sensor: Bma150, when: Time, length: usize) -> Reply
     }
 }
 
-#[tactic(auto, unfolding(calls::specs::Table::number))]
+#[tactic(auto, unfolding(calls::specs::Table::number), using(crate::proofs::Laws::select_called))]
 fn host(sensor: Bma150, c: Call, lent: bool) -> Reply
     ensures { L.replied result ≡ K.called sensor c }
 {
