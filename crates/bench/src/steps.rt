@@ -83,6 +83,7 @@ fn timed_answer(t: Timed, answer: Result<Option<Report>, Refusal>) -> Result<Opt
     answer.map(|report| timed_extra(t, report))
 }
 
+#[tactic(auto, using(crate::proofs::Laws::called_is, bma150::proofs::Theorems::Added::reported_is))]
 fn timed(sensor: Bma150, when: Time, t: Timed) -> Reply
     ensures { L.replied result ≡ K.called sensor (Call.At when t) }
 {
@@ -94,6 +95,7 @@ fn timed(sensor: Bma150, when: Time, t: Timed) -> Reply
 }
 
 // The reply of a lent due call that left this sensor and this answer.
+#[tactic(auto, using(crate::proofs::Laws::called_is, bma150::proofs::Theorems::Added::reported_is))]
 fn answered(sensor: Bma150, answer: Result<Option<Report>, Refusal>) -> Reply
     ensures { (s : Bma150) (t : Time) → DueLent s t sensor answer → L.replied result ≡ K.called s (Call.At t Timed.Due) }
 {
@@ -130,7 +132,7 @@ fn timed_either(sensor: Bma150, when: Time, t: Timed, lent: bool) -> Reply
     }
 }
 
-#[tactic(auto, unfolding(crate::specs::Line::extra_adds))]
+#[tactic(auto, unfolding(crate::specs::Line::extra_adds, calls::specs::Table::number), using(crate::proofs::Laws::called_is, calls::proofs::Theorems::Left::view_accepted, bma150::proofs::Theorems::Added::view_leaves))]
 fn view(sensor: Bma150, address: u8) -> Reply
     ensures { L.replied result ≡ K.called sensor (Call.View address) }
 {
@@ -142,7 +144,7 @@ fn view(sensor: Bma150, address: u8) -> Reply
 }
 
 // Into a buffer of 19 bytes; another length is refused as the call refuses it.
-#[tactic(auto, unfolding(calls::specs::Table::number, calls::specs::Table::refusal_number, crate::specs::Line::extra_adds))]
+#[tactic(auto, unfolding(calls::specs::Table::number, calls::specs::Table::refusal_number, crate::specs::Line::extra_adds), using(crate::proofs::Laws::called_is, crate::proofs::Laws::wrong_buffer, bma150::proofs::Theorems::Added::image_leaves, bma150::proofs::Theorems::Added::buffer_is))]
 fn stored_image(sensor: Bma150, when: Time, length: usize) -> Reply
     ensures { L.replied result ≡ K.called sensor (Call.StoredImage when length) }
 {
@@ -157,7 +159,7 @@ fn stored_image(sensor: Bma150, when: Time, length: usize) -> Reply
     }
 }
 
-#[tactic(auto, unfolding(calls::specs::Table::number))]
+#[tactic(auto, unfolding(calls::specs::Table::number), using(crate::proofs::Laws::select_called))]
 fn host(sensor: Bma150, c: Call, lent: bool) -> Reply
     ensures { L.replied result ≡ K.called sensor c }
 {
@@ -171,7 +173,7 @@ fn host(sensor: Bma150, c: Call, lent: bool) -> Reply
 }
 
 // The command at the head of the input; a bad one changes nothing. `lent`: a due or a pin call goes over a lent sensor.
-#[tactic(auto, unfolding(crate::specs::Line::commanded, calls::specs::Table::number, calls::specs::Table::refusal_number))]
+#[tactic(auto, unfolding(crate::specs::Line::commanded, calls::specs::Table::number, calls::specs::Table::refusal_number), using(commands::proofs::Theorems::More::image_there))]
 pub(crate) fn serve(sensor: Bma150, c: Command, input: &[u8], lent: bool) -> Reply
     requires { c ≡ D.decoded input.now }
     ensures { L.replied result ≡ L.commanded sensor c (D.image input.now) }

@@ -76,6 +76,7 @@ fn effect(sensor: Sensor, now: Time, t: Timed) -> Served
 }
 
 // A start by either call. Its three parameters are what the two calls have: a struct would be made there to be taken apart here.
+#[tactic(auto, unfolding(crate::specs::Called::after_start, calls::specs::Table::unless_refused), using(calls::proofs::Theorems::Left::start_length))]
 fn started(by: Starting, when: Time, image: &[u8]) -> Replied
     ensures outcome_value { Table.number result.outcome ≡ C.start_number by when image.now }
     ensures sensor_value { result.sensor ≡ C.after_start by when image.now }
@@ -148,7 +149,7 @@ impl Bma150 {
         self.timed(now, Timed::Accelerations(input)).into()
     }
 
-    #[tactic(auto, unfolding(crate::specs::Called::leaves, calls::specs::Table::unless_refused))]
+    #[tactic(auto, unfolding(crate::specs::Called::leaves, calls::specs::Table::unless_refused), using(calls::proofs::Theorems::Left::temperature_accepted))]
     pub fn temperature(self, millicelsius: i32) -> Bma150
         ensures { result ≡ (C.called self (Call.Temperature millicelsius)).sensor }
     {
@@ -174,7 +175,7 @@ impl Bma150 {
         self.timed(now, Timed::Due)
     }
 
-    #[tactic(auto, unfolding(crate::specs::Called::leaves, calls::specs::Table::unless_refused))]
+    #[tactic(auto, unfolding(crate::specs::Called::leaves, calls::specs::Table::unless_refused), using(calls::proofs::Theorems::Left::select_accepted))]
     pub fn select(self, selected: bool) -> Bma150
         ensures { result ≡ (C.called self (Call.Select selected)).sensor }
     {
@@ -206,7 +207,7 @@ impl Bma150 {
     }
 
     // The byte that a register shows, and whether it is of a mean.
-    #[tactic(auto, unfolding(crate::specs::Called::adds, calls::specs::Table::unless_refused))]
+    #[tactic(auto, unfolding(crate::specs::Called::adds, calls::specs::Table::unless_refused), using(calls::proofs::Theorems::Left::view_accepted))]
     pub fn view(self, address: u8) -> Viewed
         ensures { C.of_view result ≡ (C.called self (Call.View address)).adds }
     {
@@ -214,6 +215,7 @@ impl Bma150 {
     }
 
     // The stored bytes at a moment, into a lent buffer; the last accepted time stays.
+    #[tactic(auto, unfolding(crate::specs::Called::put_in, crate::specs::Called::adds, calls::specs::Table::unless_refused), using(calls::proofs::Theorems::Left::buffer_length))]
     pub fn stored_image(self, when: Time, buffer: &mut [u8]) -> Result<(), Refusal>
         ensures result_value { Table.number result ≡ (C.called self (Call.StoredImage when (length buffer.old))).number }
         ensures buffer_after { buffer.new ≡ C.put_in (C.called self (Call.StoredImage when (length buffer.old))).adds buffer.old }

@@ -1,4 +1,4 @@
-use Rattle.bench.proofs.Laws.{temperature_called, select_called}
+use Rattle.bench.proofs.Laws.{temperature_called}
 use mir.Syntax.{w32}
 use mir.ValLaws.{to_z-of_z}
 use Rattle.calls.specs.Table.{number}
@@ -19,7 +19,3 @@ returns-in-Temperature c =
     ∙ ap (λ (t : Bma150). silent t 0) c.temperature.ensures
     ∙ temperature_called c.args.sensor _
     ∙ ap (λ (x : ℤ). called c.args.sensor (Call.Temperature x)) (to_z-of_z w32 c.in-Temperature.x (search rules)))
-
-pub returns-in-Select : goal.returns-in-Select
-unfolding number
-returns-in-Select c = rw c.in-Select.is (c.silent-in-Select.ensures ∙ rw c.select.ensures (select_called _ _))
