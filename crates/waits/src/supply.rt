@@ -25,7 +25,7 @@ pub fn without_report(sensor: Sensor) -> Served
     }
 }
 
-// A stored write is over: its cell holds this byte, the wanted one or a torn one.
+// A stored write is over: its cell holds this byte, which may be torn, so address and byte come as two and no `StoredWrite`.
 pub fn write_over(sensor: Sensor, address: u8, value: u8) -> Sensor
     ensures { result ≡ Sup.write_over sensor address value }
 {
