@@ -8,7 +8,7 @@ ghost use Rattle.analog.specs.Theorems.Bounds.{Below};
 
 use crate::types::{Factors, Series};
 use crate::wide::round;
-use time::Duration;
+use time::{Duration, SCAN};
 
 // One.
 pub(crate) const Q: u64 = 1 << 48;
@@ -17,7 +17,7 @@ pub(crate) const Q: u64 = 1 << 48;
 const K: u128 = 28623055379020;
 
 // The two lengths from one sample of an axis to its next.
-const PERIOD: u64 = ((1u128 << 64) / 3000) as u64;
+const PERIOD: u64 = SCAN;
 
 const LONGER: u64 = PERIOD + 1;
 
