@@ -6,7 +6,6 @@ use Prim.Native.Nat.{ℕ, ◌^◌, ◌<◌}
 use mathlib.Core.Path.{◌≡◌, refl, sym, ap, subst, ◌∙◌}
 use mathlib.Core.Bool.{Bool, true, false, cond, not, ◌&&◌, ◌||◌}
 use lib.Dec.{leb, ltb, eqb}
-use lib.IntN.{ℤ}
 use Rattle.samples.specs.Samples.{sync_local_until}
 use Rattle.sensor.specs.declared.types.Sensor.{Sensor}
 use borrow.Author.Tests.{ltb-true, ltb-false, le-leb, lt-leb}
@@ -38,7 +37,7 @@ use Rattle.calls.specs.Facts.{timed_facts, facts}
 use Rattle.bma150.specs.Called.{effect, served, leaves}
 use Rattle.book.specs.Lists.{FitsTimed, Fits, zeroed, accepts}
 use Rattle.book.specs.Does.{at_rise, at_pins, spi_write, action_write, i2c_write, with_acceleration, supplying, timed, Does, timed_does, does}
-use Rattle.book.specs.Book.{Running, Book, book, struck, operation, closed, completing, completed, cutting, supplied, accepted_write, of_write, began, changed_at, changed}
+use Rattle.book.specs.Book.{Book, book, struck, operation, closed, completing, completed, cutting, supplied, accepted_write, of_write, began, changed_at, changed}
 use Rattle.book.specs.Book as B
 use Rattle.book.proofs.Keeps.{Core, core, Keeps, then, select_core, sync_keeps, rise_synced_keeps, pins_synced_keeps, falling_keeps}
 use Rattle.book.proofs.Pins.{begun_writing, rising_keeps, pins_keeps}

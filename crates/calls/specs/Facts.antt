@@ -1,5 +1,5 @@
 -- What the table of refusals asks of a call, taken from the call once.
-use Rattle.std.specs.Prelude.{ℕ, ℤ, Some, None}
+use Rattle.std.specs.Prelude.{ℕ, Some, None}
 use Rattle.time.specs.declared.Time.{Time}
 use Rattle.analog.specs.Axis.{Acceleration}
 use Rattle.i2c.specs.declared.types.Levels.{Levels}

@@ -1,5 +1,5 @@
 -- What moves the stage beside the phases (analog.rs, as devices/bma150.rs and bma150/control.rs call it).
-use Rattle.std.specs.Prelude.{ℤ, if◌then◌else◌}
+use Rattle.std.specs.Prelude.{if◌then◌else◌}
 use Rattle.time.specs.declared.Time.{Time}
 use Rattle.analog.specs.Axis.{Acceleration}
 use Rattle.analog.specs.Axis as A

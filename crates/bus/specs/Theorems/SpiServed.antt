@@ -1,5 +1,5 @@
 -- An accepted call serves its edge, and any other call but select 0, a supply below 2400 mV and a soft reset leaves the frame.
-use Rattle.std.specs.Prelude.{ℕ, ◌≡◌, Bool, true, ◌||◌, [], ◌∷◌, ltb, ℤ, Option, Some, None}
+use Rattle.std.specs.Prelude.{ℕ, ◌≡◌, Bool, true, ◌||◌, [], ◌∷◌, ltb, Option, Some, None}
 use Rattle.std.proofs.Math.Path.{refl, sym, ap, subst}
 use Rattle.std.proofs.Common.{◌∙◌}
 use Rattle.std.proofs.Math.Bool.{false}

@@ -1,5 +1,5 @@
 -- What happens to a sensor at a moment leaves no axis of the stage ahead of it, where none was.
-use Rattle.std.specs.Prelude.{ℕ, ◌≤◌, ◌≡◌, refl, Bool, cond, ℤ, Some, None}
+use Rattle.std.specs.Prelude.{ℕ, ◌≤◌, ◌≡◌, refl, Bool, cond, Some, None}
 use Rattle.std.proofs.Common.{arith, eqb-true}
 use Rattle.std.proofs.Math.Bool.{true, false}
 use Rattle.laws.specs.Iterate.{iterate}
