@@ -1,6 +1,6 @@
 -- What holds of every sensor of a list, and what acceptance says of a running write's end.
 use Rattle.std.specs.Prelude.{Option}
-use Rattle.std.specs.Prelude.{Some, None, ℤ}
+use Rattle.std.specs.Prelude.{Some, None}
 use Rattle.sensor.specs.Operation.{Operation}
 use Rattle.i2c.specs.declared.types.Levels.{Levels}
 use Prim.Native.Nat.{ℕ, ◌+◌, ◌*◌, ◌^◌, ◌≤◌, ◌<◌}
