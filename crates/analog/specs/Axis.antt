@@ -26,7 +26,7 @@ at_rest now = record { at = now; output = pos 0; velocity = pos 0 }
 
 -- `resume`: the time between does not count
 abbrev pub resumed : Axis → (now : Time) → Axis
-resumed a now = record { at = now; output = a.output; velocity = a.velocity }
+resumed a now = record a { at = now }
 
 -- it stands still on the input
 abbrev pub settled : Axis → (input : ℤ) → Bool

@@ -93,7 +93,7 @@ pins_synced_keeps s e now = of (E.pins_synced_keeps s e now)
 
 -- the select pin is the one asked for
 abbrev pub with_selected : Core → Bool → Core
-with_selected k b = record { cells = k.cells; writing = k.writing; supply = k.supply; kept = k.kept; selected = b }
+with_selected k b = record k { selected = b }
 
 pub select_core : (s : Sensor) (b : Bool) → core (selected_to s b) ≡ with_selected (core s) b
 unfolding selected_to F.differs

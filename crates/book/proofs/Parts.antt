@@ -23,11 +23,11 @@ use Rattle.book.proofs.Keeps.{Core, core, with_selected, select_core, waits_keep
 -- ---- parts replaced
 
 abbrev pub supplied_by : Core → Supply → Core
-supplied_by k x = record { cells = k.cells; writing = k.writing; supply = x; kept = k.kept; selected = k.selected }
+supplied_by k x = record k { supply = x }
 
 -- a write is over, with these cells
 abbrev pub over : Core → List ℕ → Core
-over k cells = record { cells = cells; writing = None; supply = k.supply; kept = k.kept; selected = k.selected }
+over k cells = record k { cells = cells; writing = None }
 
 abbrev pub off : Core → Bool
 off k = is_set k.supply.unpowered_since

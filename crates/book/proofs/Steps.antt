@@ -53,10 +53,10 @@ pub record Moved (k l : Core) (d : Does) (m : Book) : Type 0 where
   pub kept : d.keeps k.kept ≡ l.kept
 
 abbrev with_running : Core → Operation → Core
-with_running k w = record { cells = k.cells; writing = w; supply = k.supply; kept = k.kept; selected = k.selected }
+with_running k w = record k { writing = w }
 
 abbrev keeping : Core → Kept → Core
-keeping k x = record { cells = k.cells; writing = k.writing; supply = k.supply; kept = x; selected = k.selected }
+keeping k x = record k { kept = x }
 
 module _ (b : Bma150) (h : Sound (core b.sensor)) where
   abbrev s : Sensor

@@ -62,7 +62,7 @@ pub record Wrote : Type 0 where
 
 -- the write with this fate
 abbrev pub with_fate : Wrote → Fate → Wrote
-with_fate w fate = record { address = w.address; wanted = w.wanted; began = w.began; fate = fate }
+with_fate w fate = record w { fate = fate }
 
 -- a running write, as the book has it
 abbrev pub as_running : Wrote → Running

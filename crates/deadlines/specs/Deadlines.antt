@@ -51,27 +51,27 @@ never = record { serial_ready = None; wake = None; pause = None; quiet = None; i
 
 -- the serial pins stay dead until d
 abbrev pub with_serial_ready : Deadlines → Option Time → Deadlines
-with_serial_ready s d = record { serial_ready = d; wake = s.wake; pause = s.pause; quiet = s.quiet; irq_hold = s.irq_hold; image = s.image }
+with_serial_ready s d = record s { serial_ready = d }
 
 -- samples begin at d (the Rust's `wake_deadline`)
 abbrev pub with_wake : Deadlines → Option Time → Deadlines
-with_wake s d = record { serial_ready = s.serial_ready; wake = d; pause = s.pause; quiet = s.quiet; irq_hold = s.irq_hold; image = s.image }
+with_wake s d = record s { wake = d }
 
 -- an automatic sleep ends at d (the Rust's `pause_deadline`)
 abbrev pub with_pause : Deadlines → Option Time → Deadlines
-with_pause s d = record { serial_ready = s.serial_ready; wake = s.wake; pause = d; quiet = s.quiet; irq_hold = s.irq_hold; image = s.image }
+with_pause s d = record s { pause = d }
 
 -- quiet after a soft reset until d (the Rust's `quiet_deadline`)
 abbrev pub with_quiet : Deadlines → Option Time → Deadlines
-with_quiet s d = record { serial_ready = s.serial_ready; wake = s.wake; pause = s.pause; quiet = d; irq_hold = s.irq_hold; image = s.image }
+with_quiet s d = record s { quiet = d }
 
 -- the interrupt pin is held until d
 abbrev pub with_irq_hold : Deadlines → Option Time → Deadlines
-with_irq_hold s d = record { serial_ready = s.serial_ready; wake = s.wake; pause = s.pause; quiet = s.quiet; irq_hold = d; image = s.image }
+with_irq_hold s d = record s { irq_hold = d }
 
 -- an image copy ends at d (the Rust's `image_deadline`)
 abbrev pub with_image : Deadlines → Option Time → Deadlines
-with_image s d = record { serial_ready = s.serial_ready; wake = s.wake; pause = s.pause; quiet = s.quiet; irq_hold = s.irq_hold; image = d }
+with_image s d = record s { image = d }
 
 -- the wait of that name is due at d
 abbrev pub with_wait : Wait → Deadlines → Option Time → Deadlines

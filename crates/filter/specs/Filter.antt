@@ -33,11 +33,7 @@ made bandwidth = record {
 
 -- another bandwidth, which keeps the histories (01)
 abbrev pub selected : Filter → (bandwidth : ℕ) → Filter
-selected f bandwidth = record {
-  history = f.history;
-  rings = f.rings;
-  shift = shift_of bandwidth;
-}
+selected f bandwidth = record f { shift = shift_of bandwidth }
 
 -- the ring of an axis, which counts modulo 3
 abbrev pub ring_of : Filter → (axis : ℕ) → Ring

@@ -21,28 +21,28 @@ use Rattle.sampling.specs.declared.types.Acquisition.{Acquisition}
 -- ---- parts of the record
 
 abbrev pub with_registers : Acquisition → List ℕ → Acquisition
-with_registers c r = record { registers = r; sampling = c.sampling; interrupts = c.interrupts }
+with_registers c r = record c { registers = r }
 
 abbrev pub with_sampling : Acquisition → Sampling → Acquisition
-with_sampling c s = record { registers = c.registers; sampling = s; interrupts = c.interrupts }
+with_sampling c s = record c { sampling = s }
 
 abbrev pub with_interrupts : Acquisition → Interrupts → Acquisition
-with_interrupts c i = record { registers = c.registers; sampling = c.sampling; interrupts = i }
+with_interrupts c i = record c { interrupts = i }
 
 abbrev pub with_clock : Sampling → Clock → Sampling
-with_clock s k = record { filter = s.filter; filtered = s.filtered; means = s.means; clock = k; analog = s.analog; asleep = s.asleep; auto_cycles = s.auto_cycles; test = s.test; data_ready = s.data_ready }
+with_clock s k = record s { clock = k }
 
 abbrev pub with_analog : Sampling → Analog → Sampling
-with_analog s a = record { filter = s.filter; filtered = s.filtered; means = s.means; clock = s.clock; analog = a; asleep = s.asleep; auto_cycles = s.auto_cycles; test = s.test; data_ready = s.data_ready }
+with_analog s a = record s { analog = a }
 
 abbrev pub with_test : Sampling → Option ℕ → Sampling
-with_test s t = record { filter = s.filter; filtered = s.filtered; means = s.means; clock = s.clock; analog = s.analog; asleep = s.asleep; auto_cycles = s.auto_cycles; test = t; data_ready = s.data_ready }
+with_test s t = record s { test = t }
 
 abbrev pub with_filtered : Sampling → Filter → (codes : List ℤ) (means : List Bool) → Sampling
-with_filtered s f codes means = record { filter = f; filtered = codes; means = means; clock = s.clock; analog = s.analog; asleep = s.asleep; auto_cycles = s.auto_cycles; test = s.test; data_ready = s.data_ready }
+with_filtered s f codes means = record s { filter = f; filtered = codes; means = means }
 
 abbrev pub with_scan : Sampling → (n : ℕ) (ready : Bool) → Sampling
-with_scan s n ready = record { filter = s.filter; filtered = s.filtered; means = s.means; clock = s.clock; analog = s.analog; asleep = s.asleep; auto_cycles = n; test = s.test; data_ready = ready }
+with_scan s n ready = record s { auto_cycles = n; data_ready = ready }
 
 -- ---- acquisition
 

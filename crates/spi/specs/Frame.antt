@@ -45,42 +45,15 @@ first_bit (S.Write a) bits = None
 
 -- one of the first seven bits of a byte
 abbrev pub bit_taken : Frame → (mosi : Bool) → Frame
-bit_taken f mosi = record {
-  serial = f.serial;
-  selected = f.selected;
-  rx = shifted_in f.rx mosi;
-  rx_bits = f.rx_bits + 1;
-  tx = f.tx;
-  tx_bit = f.tx_bit;
-  driven = f.driven;
-  turnaround = f.turnaround;
-}
+bit_taken f mosi = record f { rx = shifted_in f.rx mosi; rx_bits = f.rx_bits + 1 }
 
 -- a byte is complete: the next one is that of `serial`
 abbrev pub next_byte : Frame → (serial : Serial) → Frame
-next_byte f serial = record {
-  serial = serial;
-  selected = f.selected;
-  rx = 0;
-  rx_bits = 0;
-  tx = f.tx;
-  tx_bit = f.tx_bit;
-  driven = f.driven;
-  turnaround = f.turnaround;
-}
+next_byte f serial = record f { serial = serial; rx = 0; rx_bits = 0 }
 
 -- a register's byte is to be sent next, in three-wire mode after a turnaround
 abbrev pub next_read : Frame → (a : ℕ) (turnaround : Bool) → Frame
-next_read f a turnaround = record {
-  serial = S.Read a;
-  selected = f.selected;
-  rx = 0;
-  rx_bits = 0;
-  tx = None;
-  tx_bit = 0;
-  driven = f.driven;
-  turnaround = turnaround;
-}
+next_read f a turnaround = record f { serial = S.Read a; rx = 0; rx_bits = 0; tx = None; tx_bit = 0; turnaround = turnaround }
 
 -- an address byte: bit 7 set reads, else writes; bits 6 to 0 are the register
 unfoldable pub addressed : Frame → (byte : Byte) (four_wire : Bool) → Frame
@@ -115,7 +88,7 @@ shifts f at four_wire = if moves at four_wire f.turnaround then fetches f.serial
 
 -- the turnaround is over
 abbrev pub turned : Frame → Frame
-turned f = record { serial = f.serial; selected = f.selected; rx = f.rx; rx_bits = f.rx_bits; tx = f.tx; tx_bit = f.tx_bit; driven = f.driven; turnaround = false }
+turned f = record f { turnaround = false }
 
 -- the pin shows the n-th bit of the byte being sent, most significant first, while selected
 unfoldable pub bit_drive : ℕ → ℕ → Drive
@@ -131,29 +104,11 @@ next_bit n = if ltb n 8 then n + 1 else 8
 
 -- the driver is released (also by `pause`)
 abbrev pub released : Frame → Frame
-released f = record {
-  serial = f.serial;
-  selected = f.selected;
-  rx = f.rx;
-  rx_bits = f.rx_bits;
-  tx = f.tx;
-  tx_bit = f.tx_bit;
-  driven = D.Floating;
-  turnaround = f.turnaround;
-}
+released f = record f { driven = D.Floating }
 
 -- the next bit of a byte is driven
 abbrev pub showing : Frame → (tx : Option ℕ) → Frame
-showing f tx = record {
-  serial = f.serial;
-  selected = f.selected;
-  rx = f.rx;
-  rx_bits = f.rx_bits;
-  tx = tx;
-  tx_bit = next_bit f.tx_bit;
-  driven = level tx f.selected f.tx_bit;
-  turnaround = f.turnaround;
-}
+showing f tx = record f { tx = tx; tx_bit = next_bit f.tx_bit; driven = level tx f.selected f.tx_bit }
 
 -- the output moves on, with the byte now being sent (`shift_output`); outside a read it floats
 unfoldable pub moved : Serial → Frame → (tx : Option ℕ) → Frame
@@ -166,16 +121,7 @@ shifted f tx = moved f.serial f tx
 
 -- the byte being sent is another, or none (I2C shares it)
 abbrev pub sending : Frame → (tx : Option ℕ) → Frame
-sending f tx = record {
-  serial = f.serial;
-  selected = f.selected;
-  rx = f.rx;
-  rx_bits = f.rx_bits;
-  tx = tx;
-  tx_bit = f.tx_bit;
-  driven = f.driven;
-  turnaround = f.turnaround;
-}
+sending f tx = record f { tx = tx }
 
 -- ---- which edges use converted values (a sample at the same moment comes first)
 

@@ -17,7 +17,7 @@ use Rattle.spi.specs.Lines.{Event, Rise, Fall, Now, output, turnaround_shift, ri
 
 -- the frame with another driver
 abbrev pub driving : Frame → Drive → Frame
-driving f d = record { serial = f.serial; selected = f.selected; rx = f.rx; rx_bits = f.rx_bits; tx = f.tx; tx_bit = f.tx_bit; driven = d; turnaround = f.turnaround }
+driving f d = record f { driven = d }
 
 -- its driver stays or is released
 abbrev pub fading : (stays : Bool) → Frame → Frame
