@@ -95,13 +95,13 @@ impl Sensor {
         if withheld(address, self.gate()) {
             return None;
         }
-        self.registers.get(address as usize).copied()
+        self.registers.get(usize::from(address)).copied()
     }
 
     // The first bit of a register's byte is taken: new_data of its axis clears.
     pub(crate) fn noted(mut self, address: u8) -> Sensor {
         if self.frame.tx.is_some() && !self.quiet && (2..=7).contains(&address) {
-            let low = (address - address % 2) as usize;
+            let low = usize::from(address - address % 2);
             self.registers[low] &= 0xfe;
         }
         self
@@ -123,7 +123,7 @@ impl Sensor {
 
     fn stored_at(mut self, address: u8, value: u8) -> Sensor {
         if address < 62 {
-            self.registers[address as usize] = value;
+            self.registers[usize::from(address)] = value;
         }
         self
     }
