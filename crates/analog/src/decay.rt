@@ -54,8 +54,8 @@ fn share(x: i64, angle: Angle, n: u64) -> i64
     requires { (unsigned_abs x ≤ 2 ^ 50) × (0 < n) × (n ≤ 12) }
     ensures { (result ≡ R.round (x *ℤ pos angle.size) (D.unit * n)) × (unsigned_abs result ≤ 2 ^ 47) }
 {
-    let product = x.unsigned_abs() as u128 * angle.size as u128;
-    let size = ((product + (n * (Q / 2)) as u128) >> 48) as u64 / n;
+    let product = u128::from(x.unsigned_abs()) * u128::from(angle.size);
+    let size = ((product + u128::from(n * (Q / 2))) >> 48) as u64 / n;
     if x < 0 { -(size as i64) } else { size as i64 }
 }
 
@@ -93,7 +93,7 @@ fn square(f: Factors) -> Factors
     requires { Below f × Below (D.squared f) }
     ensures { result ≡ D.squared f }
 {
-    let (re, im) = (f.re as i128, f.im as i128);
+    let (re, im) = (i128::from(f.re), i128::from(f.im));
     Factors {
         re: round(re * re - im * im, Q) as i64,
         im: round(2 * re * im, Q) as i64,
@@ -135,7 +135,7 @@ fn decay(dt: u64) -> Factors
     if dt >= SETTLING {
         return NOTHING;
     }
-    let (angle, squares) = halved(((dt as u128 * K) >> 48) as u64);
+    let (angle, squares) = halved(((u128::from(dt) * K) >> 48) as u64);
     raised(series(angle), squares)
 }
 
