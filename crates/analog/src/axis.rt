@@ -71,7 +71,8 @@ impl Axis {
         step(self, now, input, factors(d))
     }
 
-    // The same for a sample: most often the axis stands on its input, and no call is made.
+    // The same for a sample: most often the axis stands on its input, and no call is made. By `advance` alone the waits of
+    // 40 s take 119 ms for 109 (decision 82).
     #[tactic(auto, unfolding(crate::specs::Axis::advanced))]
     pub fn sample(self, now: Time, input: i32) -> Axis
         ensures { result ≡ Ax.advanced self now input }
