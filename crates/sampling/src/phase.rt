@@ -13,7 +13,8 @@ use registers::fields::{
     OPERATION, SELF_TEST_1, STATUS, TEMP, WAKE_UP, has, range,
 };
 
-// The code of an axis's sampled acceleration. An axis is a number, as in the definitions, and `measured` asks the same.
+// The code of an axis's sampled acceleration. An axis is a number below 3, as in the definitions: a type of three values would be cast
+// back to index. `measure` asks the same.
 #[tactic(auto, unfolding(crate::specs::Phase::converted))]
 fn converted(registers: &[u8; 62], acceleration: i64, axis: u8) -> i16
     requires { axis < 3 }
