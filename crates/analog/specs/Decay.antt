@@ -22,14 +22,14 @@ period = 2 ^ 64 / 3000
 
 -- the series before its first term: a sum of 1, and a term of 1
 abbrev pub first : Series
-first = record { re = pos unit; im = pos 0; tr = pos unit; ti = pos 0 }
+first = record { sum = record { re = pos unit; im = pos 0 }; last = record { re = pos unit; im = pos 0 } }
 
 -- term n: the term before times (−1 + i) · angle / n, added to the sum
 unfoldable pub term : (angle n : ℕ) → Series → Series
 term angle n s =
-    let tr = round ((neg_ℤ s.tr -ℤ s.ti) *ℤ pos angle) (unit * n) in
-    let ti = round ((s.tr -ℤ s.ti) *ℤ pos angle) (unit * n) in
-    record { re = s.re +ℤ tr; im = s.im +ℤ ti; tr = tr; ti = ti }
+    let re = round ((neg_ℤ s.last.re -ℤ s.last.im) *ℤ pos angle) (unit * n) in
+    let im = round ((s.last.re -ℤ s.last.im) *ℤ pos angle) (unit * n) in
+    record { sum = record { re = s.sum.re +ℤ re; im = s.sum.im +ℤ im }; last = record { re = re; im = im } }
 
 -- the first n terms
 unfoldable pub terms : (angle n : ℕ) → Series
@@ -38,7 +38,7 @@ terms angle (suc n) = term angle (suc n) (terms angle n)
 
 -- the sum of the twelve terms that the Rust takes
 abbrev pub series : (angle : ℕ) → Factors
-series angle = record { re = (terms angle 12).re; im = (terms angle 12).im }
+series angle = (terms angle 12).sum
 
 -- the square of a complex number
 unfoldable pub squared : Factors → Factors

@@ -33,12 +33,16 @@ const COMMON: Factors = Factors {
 // What remains after 8 ms or more.
 const NOTHING: Factors = Factors { re: 0, im: 0 };
 
-// The series before its first term: a sum of 1, and a term of 1.
-const FIRST: Series = Series {
+// One, as a complex number.
+const ONE: Factors = Factors {
     re: Q as i64,
     im: 0,
-    tr: Q as i64,
-    ti: 0,
+};
+
+// The series before its first term: a sum of 1, and a term of 1.
+const FIRST: Series = Series {
+    sum: ONE,
+    last: ONE,
 };
 
 // An angle of at most a sixteenth, at which the series is good.
@@ -54,24 +58,26 @@ fn share(x: i64, angle: Angle, n: u64) -> i64
     requires { (unsigned_abs x ≤ 2 ^ 50) × (0 < n) × (n ≤ 12) }
     ensures { (result ≡ R.round (x *ℤ pos angle.size) (D.unit * n)) × (unsigned_abs result ≤ 2 ^ 47) }
 {
-    let product = x.unsigned_abs() as u128 * angle.size as u128;
-    let size = ((product + (n * (Q / 2)) as u128) >> 48) as u64 / n;
+    let product = u128::from(x.unsigned_abs()) * u128::from(angle.size);
+    let size = ((product + u128::from(n * (Q / 2))) >> 48) as u64 / n;
     if x < 0 { -(size as i64) } else { size as i64 }
 }
 
 // The next term of the series, and the sums with it.
 #[tactic(auto, unfolding(crate::specs::Decay::term))]
 fn term(s: Series, angle: Angle, n: u64) -> Series
-    requires { (unsigned_abs s.tr ≤ 2 ^ 48) × (unsigned_abs s.ti ≤ 2 ^ 48) × (unsigned_abs s.re ≤ 13 * 2 ^ 48) × (unsigned_abs s.im ≤ 13 * 2 ^ 48) × (0 < n) × (n ≤ 12) }
+    requires { (unsigned_abs s.last.re ≤ 2 ^ 48) × (unsigned_abs s.last.im ≤ 2 ^ 48) × (unsigned_abs s.sum.re ≤ 13 * 2 ^ 48) × (unsigned_abs s.sum.im ≤ 13 * 2 ^ 48) × (0 < n) × (n ≤ 12) }
     ensures { result ≡ D.term angle.size n s }
 {
-    let tr = share(-s.tr - s.ti, angle, n);
-    let ti = share(s.tr - s.ti, angle, n);
+    let Series { sum, last } = s;
+    let re = share(-last.re - last.im, angle, n);
+    let im = share(last.re - last.im, angle, n);
     Series {
-        re: s.re + tr,
-        im: s.im + ti,
-        tr,
-        ti,
+        sum: Factors {
+            re: sum.re + re,
+            im: sum.im + im,
+        },
+        last: Factors { re, im },
     }
 }
 
@@ -84,7 +90,7 @@ fn series(angle: Angle) -> Factors
     for n in 1..13 {
         s = term(s, angle, n);
     }
-    Factors { re: s.re, im: s.im }
+    s.sum
 }
 
 // The square of a complex number.
@@ -93,7 +99,7 @@ fn square(f: Factors) -> Factors
     requires { Below f × Below (D.squared f) }
     ensures { result ≡ D.squared f }
 {
-    let (re, im) = (f.re as i128, f.im as i128);
+    let (re, im) = (i128::from(f.re), i128::from(f.im));
     Factors {
         re: round(re * re - im * im, Q) as i64,
         im: round(2 * re * im, Q) as i64,
@@ -135,7 +141,7 @@ fn decay(dt: u64) -> Factors
     if dt >= SETTLING {
         return NOTHING;
     }
-    let (angle, squares) = halved(((dt as u128 * K) >> 48) as u64);
+    let (angle, squares) = halved(((u128::from(dt) * K) >> 48) as u64);
     raised(series(angle), squares)
 }
 

@@ -1,5 +1,4 @@
-// The stage before sampling (devices/bma150/analog.rs). Its casts to 128 bits are `as`: with `from` the check does not find the proofs of
-// `round`, `share` and `step` by itself.
+// The stage before sampling (devices/bma150/analog.rs).
 #![tactic(auto)]
 
 mod axis;

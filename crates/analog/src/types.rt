@@ -1,4 +1,4 @@
-// The stage's record, and the numbers of a step. Names are the Rust's (devices/bma150/analog.rs).
+// The stage's record, and the numbers of a step (devices/bma150/analog.rs).
 use time::Time;
 
 // What there is for each of the three axes.
@@ -34,8 +34,6 @@ pub struct Factors {
 // A sum of terms, and its last term.
 #[derive(Clone, Copy, Debug, PartialEq, Eq)]
 pub struct Series {
-    pub re: i64,
-    pub im: i64,
-    pub tr: i64,
-    pub ti: i64,
+    pub sum: Factors,
+    pub last: Factors,
 }

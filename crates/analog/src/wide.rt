@@ -7,8 +7,8 @@ pub(crate) fn round(n: i128, d: u64) -> i128
     requires { (unsigned_abs n ≤ 2 ^ 126) × (0 < d) }
     ensures { (result ≡ R.round n d) × (unsigned_abs result ≤ unsigned_abs n) }
 {
-    let half = (d / 2) as i128;
-    (if n < 0 { n - half } else { n + half }) / d as i128
+    let half = i128::from(d / 2);
+    (if n < 0 { n - half } else { n + half }) / i128::from(d)
 }
 
 // The lowest 64 bits, as a signed number: the Rust's `as i64`.

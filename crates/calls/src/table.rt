@@ -65,7 +65,7 @@ fn facts(c: Call) -> Facts
     }
 }
 
-// 1.
+// Refusal 1: a buffer for the stored image that is not 19 bytes long.
 #[tactic(auto, unfolding(crate::specs::Table::wrong_length))]
 fn wrong_length(bytes: Option<usize>) -> bool
     ensures { result ≡ Table.wrong_length bytes }
@@ -73,6 +73,7 @@ fn wrong_length(bytes: Option<usize>) -> bool
     bytes.is_some_and(|n| n != 19)
 }
 
+// Whole seconds of 2^32 or more.
 #[tactic(auto, unfolding(crate::specs::Table::late))]
 fn late(now: Time) -> bool
     ensures { result ≡ Table.late now }
@@ -80,15 +81,15 @@ fn late(now: Time) -> bool
     1 << 32 <= now.0
 }
 
-// 3.
+// Refusal 3: a time whose whole seconds are 2^32 or more.
 #[tactic(auto, unfolding(crate::specs::Table::too_late))]
 fn too_late(time: Option<Time>) -> bool
     ensures { result ≡ Table.too_late time }
 {
-    time.is_some_and(|now| late(now))
+    time.is_some_and(late)
 }
 
-// 4.
+// Refusal 4: a time before the last accepted one.
 #[tactic(auto, unfolding(crate::specs::Table::goes_back))]
 fn goes_back(last: Time, time: Option<Time>) -> bool
     ensures { result ≡ Table.goes_back last time }
@@ -96,14 +97,15 @@ fn goes_back(last: Time, time: Option<Time>) -> bool
     time.is_some_and(|now| now < last)
 }
 
+// An acceleration beyond 1000 g either way.
 #[tactic(auto, unfolding(crate::specs::Table::beyond))]
 fn beyond(axis: i32) -> bool
     ensures { result ≡ Table.beyond axis }
 {
-    1000000000 < axis || axis < -1000000000
+    !(-1000000000..=1000000000).contains(&axis)
 }
 
-// 2.
+// Refusal 2: an axis beyond the range.
 #[tactic(auto, unfolding(crate::specs::Table::out_of_range, crate::specs::Table::any_beyond))]
 fn out_of_range(axes: Option<Acceleration>) -> bool
     ensures { result ≡ Table.out_of_range axes }
@@ -111,7 +113,7 @@ fn out_of_range(axes: Option<Acceleration>) -> bool
     axes.is_some_and(|input| beyond(input.x) || beyond(input.y) || beyond(input.z))
 }
 
-// 8.
+// Refusal 8: a pin report whose levels before are not those after the last accepted report.
 #[tactic(auto, unfolding(crate::specs::Table::jumps))]
 fn jumps(lines: Levels, reported: Option<Levels>) -> bool
     ensures { result ≡ Table.jumps lines reported }
@@ -119,7 +121,7 @@ fn jumps(lines: Levels, reported: Option<Levels>) -> bool
     reported.is_some_and(|before| lines != before)
 }
 
-// 5.
+// Refusal 5: a timed call, other than the due call, with something due at or before its time.
 #[tactic(auto, unfolding(crate::specs::Table::before_due, crate::specs::Table::due_by))]
 fn before_due(due: Option<Time>, kind: Kind, time: Option<Time>) -> bool
     ensures { result ≡ Table.before_due due kind time }
@@ -127,7 +129,7 @@ fn before_due(due: Option<Time>, kind: Kind, time: Option<Time>) -> bool
     kind == Kind::Timed && time.is_some_and(|now| is_by(due, now))
 }
 
-// 6.
+// Refusal 6: a due call at a time that is not the next due.
 #[tactic(auto, unfolding(crate::specs::Table::beside_due, crate::specs::Table::due_at))]
 fn beside_due(due: Option<Time>, kind: Kind, time: Option<Time>) -> bool
     ensures { result ≡ Table.beside_due due kind time }
@@ -165,7 +167,7 @@ fn reserved(measurement: u8) -> bool
     range(measurement) == 3 || bandwidth(measurement) == 7
 }
 
-// 9.
+// Refusal 9: command 01's start with a reserved code in register 14.
 #[tactic(auto, unfolding(crate::specs::Table::turned_down))]
 fn turned_down(by: Starting, measurement: u8) -> bool
     ensures { result ≡ Table.turned_down by measurement }
@@ -183,7 +185,7 @@ pub fn start_refusal(by: Starting, now: Time, length: usize, measurement: u8) ->
     refused_if(late(now), Refusal::TimeLimit)
 }
 
-// Whether a call is accepted: its number is 0.
+// Whether a call is accepted: its number is 0. It is `is_ok`; the contract says it of 01's number, as callers need it.
 #[tactic(auto, unfolding(crate::specs::Table::number), using(crate::proofs::Theorems::Values::refused_number))]
 pub fn is_accepted(outcome: Result<(), Refusal>) -> bool
     ensures { result ≡ eqb (Table.number outcome) 0 }

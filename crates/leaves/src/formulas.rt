@@ -25,58 +25,42 @@ impl Record {
     }
 
     // The moment y, z.
-    fn other_moment(self) -> Time {
+    pub(crate) fn other_moment(self) -> Time {
         Time(self.y, self.z)
     }
 }
 
 // The byte of cell 20000 hex + c at the moment y, z, in a write of b over a from the moment n, x.
-fn torn(r: Record) -> Answer {
+pub(crate) fn torn(r: Record) -> Answer {
     let cycle = WriteCycle::start(r.moment());
     let cell = 0x20000 + u32::from(r.c);
     Answer(0, cycle.byte(r.a, r.b, cell, r.other_moment()).into())
 }
 
 // When a write from the moment n, x ends.
-fn ends(r: Record) -> Answer {
+pub(crate) fn ends(r: Record) -> Answer {
     WriteCycle::start(r.moment()).deadline().into()
 }
 
 // The moments n, x and y, z compared: whether the first precedes, whether they are one.
-fn compared(r: Record) -> Answer {
+pub(crate) fn compared(r: Record) -> Answer {
     let t = r.moment();
     let u = r.other_moment();
     Answer(t.precedes(u).into(), t.same(u).into())
 }
 
 // A clock from the moment n, x on, as many edges further as the bytes a, b, c say.
-fn clock(r: Record) -> Clock {
+pub(crate) fn clock(r: Record) -> Clock {
     Clock::new(r.moment()).advance(u32::from_be_bytes([0, r.a, r.b, r.c]).into())
 }
 
-fn edges(r: Record) -> Answer {
+pub(crate) fn edges(r: Record) -> Answer {
     let c = clock(r);
     Answer(c.edges_before(r.other_moment()), c.ordinal())
 }
 
-fn moments(r: Record) -> Answer {
-    match r.kind {
-        0x01 => r.moment().plus(Duration(r.y, r.z)).into(),
-        0x02 => r.other_moment().since(r.moment()).into(),
-        0x03 => r.moment().next_unit().into(),
-        0x04 => compared(r),
-        0x05 => Duration::from_millis(r.x).into(),
-        0x06 => Duration::from_micros(r.x).into(),
-        0x07 => edges(r),
-        0x08 => clock(r).last().into(),
-        0x09 => clock(r).next().into(),
-        0x0a => torn(r),
-        _ => ends(r),
-    }
-}
-
 // The code of the acceleration n with the offset registers a and b and the range of c, and its two registers.
-fn coded(r: Record) -> Answer {
+pub(crate) fn coded(r: Record) -> Answer {
     let z = code(r.n.cast_signed().into(), offset(r.a, r.b), range(r.c));
     Answer(
         raised(z),
@@ -84,7 +68,7 @@ fn coded(r: Record) -> Answer {
     )
 }
 
-fn warm(r: Record) -> Answer {
+pub(crate) fn warm(r: Record) -> Answer {
     Answer(0, temperature(r.n.cast_signed()).into())
 }
 
@@ -98,7 +82,7 @@ fn taken(r: Record, gate: Gate, starts: bool) -> bool {
 }
 
 // A write of b to a and a read of a, with 0a holding c. The bits of x: quiet, copying, asleep, a stored write runs.
-fn access(r: Record) -> Answer {
+pub(crate) fn access(r: Record) -> Answer {
     let flags = (r.x % 16) as u8;
     let gate = Gate {
         control: r.c,
@@ -111,13 +95,4 @@ fn access(r: Record) -> Answer {
         taken(r, gate, starts).into(),
         truths(starts, withheld(r.a, gate)),
     )
-}
-
-pub(crate) fn formula(r: Record) -> Answer {
-    match r.kind {
-        0x10 => coded(r),
-        0x11 => warm(r),
-        0x12 => access(r),
-        _ => moments(r),
-    }
 }

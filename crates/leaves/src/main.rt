@@ -2,6 +2,7 @@
 #![tactic(auto)]
 
 mod formulas;
+mod kind;
 mod record;
 mod stage;
 mod state;

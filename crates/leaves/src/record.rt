@@ -1,8 +1,9 @@
-// A record: its kind, three bytes, a number of 32 bits and three of 64. An answer: two numbers of 64 bits. All are
-// big-endian. The kinds stay the numbers of the protocol (oracle/README.md, "Leaves"): an enum would only name each once more.
+// A record: its kind, three bytes, a number of 32 bits and three of 64. An answer: two numbers of 64 bits. All are big-endian.
+use crate::kind::Kind;
+
 #[derive(Clone, Copy)]
 pub(crate) struct Record {
-    pub(crate) kind: u8,
+    pub(crate) kind: Kind,
     pub(crate) a: u8,
     pub(crate) b: u8,
     pub(crate) c: u8,
@@ -12,10 +13,11 @@ pub(crate) struct Record {
     pub(crate) z: u64,
 }
 
+// Each slice has as many bytes as its number, which is proved, so no `unwrap` fails; `first_chunk` would need one too.
 impl From<&[u8; 32]> for Record {
     fn from(bytes: &[u8; 32]) -> Record {
         Record {
-            kind: bytes[0],
+            kind: bytes[0].into(),
             a: bytes[1],
             b: bytes[2],
             c: bytes[3],
@@ -33,6 +35,13 @@ pub(crate) struct Answer(pub(crate) u64, pub(crate) u64);
 impl Answer {
     pub(crate) fn bytes(self) -> [u8; 16] {
         (u128::from(self.0) << 64 | u128::from(self.1)).to_be_bytes()
+    }
+}
+
+impl Record {
+    // The codes of the three axes.
+    pub(crate) fn codes(self) -> [i16; 3] {
+        [signed16(self.x), signed16(self.y), signed16(self.z)]
     }
 }
 

@@ -9,7 +9,7 @@ fn levels(a: Axis) -> Answer {
 }
 
 // At rest since n, x: output and velocity if a is 0, else the moment.
-fn rested(r: Record) -> Answer {
+pub(crate) fn rested(r: Record) -> Answer {
     let axis = Axis::at_rest(r.moment());
     match r.a {
         0 => levels(axis),
@@ -19,7 +19,7 @@ fn rested(r: Record) -> Answer {
 
 // From the moment 0 with output y and velocity z on to the moment b, x with the input n: output and velocity if a is 0, else the
 // value and the fraction of the moment.
-fn advanced(r: Record) -> Answer {
+pub(crate) fn advanced(r: Record) -> Answer {
     let axis = Axis {
         at: Time(0, 0),
         output: from_bits(r.y),
@@ -29,12 +29,5 @@ fn advanced(r: Record) -> Answer {
     match r.a {
         0 => levels(axis),
         _ => Answer(bits(axis.value()), axis.at.1),
-    }
-}
-
-pub(crate) fn staged(r: Record) -> Answer {
-    match r.kind {
-        0x40 => rested(r),
-        _ => advanced(r),
     }
 }

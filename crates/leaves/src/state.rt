@@ -1,10 +1,12 @@
 // The filter, the interrupts and the registers that these read.
-use crate::formulas::formula;
+use crate::formulas::{access, clock, coded, compared, edges, ends, torn, warm};
+use crate::kind::Kind;
 use crate::record::{Answer, Record, raised, signed16, truths};
-use crate::stage::staged;
+use crate::stage::{advanced, rested};
 use blocks::Answers;
 use filter::Filter;
 use interrupts::Interrupts;
+use time::Duration;
 
 #[derive(Clone, Copy)]
 pub(crate) struct Leaves {
@@ -22,61 +24,73 @@ impl Leaves {
         }
     }
 
-    // The window, and the code that a push answers, with bit 16 set where the window was full.
-    fn filtered(&mut self, r: Record) -> Answer {
-        let code = match r.kind {
-            0x20 => {
-                self.filter = Filter::new(r.a);
-                0
-            }
-            0x21 => {
-                self.filter = self.filter.select(r.a);
-                0
-            }
-            _ => {
-                let pushed = self.filter.push(r.a, signed16(r.x));
-                self.filter = pushed.filter;
-                raised(pushed.code) | u64::from(pushed.full) << 16
-            }
-        };
-        Answer(self.filter.window().into(), code)
+    // The window of the filter, which is kept, and a code.
+    fn filtered(&mut self, filter: Filter, code: u64) -> Answer {
+        self.filter = filter;
+        Answer(filter.window().into(), code)
     }
 
-    // What the interrupts show after the record.
-    fn interrupted(&mut self, r: Record) -> Answer {
-        if r.kind == 0x30 && r.a < 62 {
-            self.registers[usize::from(r.a)] = r.b;
-        }
-        let i = self.interrupts;
-        let registers = self.registers;
-        let codes = [signed16(r.x), signed16(r.y), signed16(r.z)];
-        let next = match r.kind {
-            0x31 => Interrupts::new(),
-            0x32 => i.configure(registers),
-            0x33 => i.restart_acquisition(),
-            0x34 => i.reset(registers),
-            0x35 => i.axis(r.a, codes[0], registers),
-            0x36 => i.cycle(codes, r.a, registers, [1, 3, 5, 7]),
-            0x37 => i.millisecond(registers),
-            _ => i,
-        };
+    // The code of a push has bit 16 set where the window was full.
+    fn pushed(&mut self, r: Record) -> Answer {
+        let pushed = self.filter.push(r.a, signed16(r.x));
+        let code = raised(pushed.code) | u64::from(pushed.full) << 16;
+        self.filtered(pushed.filter, code)
+    }
+
+    // What the interrupts show, which are kept.
+    fn shown(&mut self, next: Interrupts) -> Answer {
         self.interrupts = next;
         Answer(
             next.status().into(),
-            truths(next.output(registers), next.verifying(registers)),
+            truths(next.output(self.registers), next.verifying(self.registers)),
         )
+    }
+
+    fn register_set(&mut self, r: Record) -> Answer {
+        if let Some(register) = self.registers.get_mut(usize::from(r.a)) {
+            *register = r.b;
+        }
+        self.shown(self.interrupts)
+    }
+
+    // What a record asks, and what changes by it.
+    fn answered(&mut self, r: Record) -> Answer {
+        let (i, registers) = (self.interrupts, self.registers);
+        match r.kind {
+            Kind::Plus => r.moment().plus(Duration(r.y, r.z)).into(),
+            Kind::Since => r.other_moment().since(r.moment()).into(),
+            Kind::NextUnit => r.moment().next_unit().into(),
+            Kind::Compared => compared(r),
+            Kind::Millis => Duration::from_millis(r.x).into(),
+            Kind::Micros => Duration::from_micros(r.x).into(),
+            Kind::Edges => edges(r),
+            Kind::Last => clock(r).last().into(),
+            Kind::Next => clock(r).next().into(),
+            Kind::Torn => torn(r),
+            Kind::Ends => ends(r),
+            Kind::Code => coded(r),
+            Kind::Temperature => warm(r),
+            Kind::Access => access(r),
+            Kind::NewFilter => self.filtered(Filter::new(r.a), 0),
+            Kind::Select => self.filtered(self.filter.select(r.a), 0),
+            Kind::Push => self.pushed(r),
+            Kind::SetRegister => self.register_set(r),
+            Kind::NewInterrupts => self.shown(Interrupts::new()),
+            Kind::Configure => self.shown(i.configure(registers)),
+            Kind::Restart => self.shown(i.restart_acquisition()),
+            Kind::Reset => self.shown(i.reset(registers)),
+            Kind::Axis => self.shown(i.axis(r.a, signed16(r.x), registers)),
+            Kind::Cycle => self.shown(i.cycle(r.codes(), r.a, registers, [1, 3, 5, 7])),
+            Kind::Millisecond => self.shown(i.millisecond(registers)),
+            Kind::Shown => self.shown(i),
+            Kind::Rest => rested(r),
+            Kind::Advance => advanced(r),
+        }
     }
 }
 
 impl Answers<32, 16> for Leaves {
     fn answer(&mut self, item: &[u8; 32]) -> [u8; 16] {
-        let r = Record::from(item);
-        let answer = match r.kind {
-            0x00..=0x1f => formula(r),
-            0x20..=0x2f => self.filtered(r),
-            0x30..=0x3f => self.interrupted(r),
-            _ => staged(r),
-        };
-        answer.bytes()
+        self.answered(item.into()).bytes()
     }
 }

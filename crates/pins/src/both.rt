@@ -1,11 +1,19 @@
 // A sensor that is all registers: they are read and written by the serial pins at one moment, and nothing samples.
 use i2c::types::State;
 use registers::access::{Gate, ignores, stored, withheld};
-use registers::fields::{SOFT_RESET, SPI4, has};
+use registers::fields::{
+    ACC_LSB, ACC_MSB, CHIP_ID, CONTROL, CRITERIA, HG_DUR, HG_THRES, LG_DUR, LG_THRES, MEASUREMENT,
+    NEW_DATA, OFFSET_MSB, OPERATION, SHADOW_DIS, SOFT_RESET, SPI4, TEMP, VERSION, has,
+};
 use spi::types::{Drive, Frame};
 
-// `operation` is the stored byte of register 15. `awake`: no soft reset since the start, so a sample is next. `consumed`,
-// `hidden` and `viewed` are what the last event answers beside the pins.
+// The bytes of register 15 for four and for three wires, both without shadowing.
+pub(crate) const FOUR_WIRES: u8 = 1 << SPI4 | 1 << SHADOW_DIS;
+
+pub(crate) const THREE_WIRES: u8 = 1 << SHADOW_DIS;
+
+// `operation` is the stored byte of register 15. `awake`: no soft reset since the start, so a sample is next. `consumed` and
+// `viewed` are what the last event answers beside the pins; there is none viewed where a view is withheld.
 #[derive(Clone, Copy)]
 pub(crate) struct Sensor {
     pub(crate) i2c: State,
@@ -15,40 +23,39 @@ pub(crate) struct Sensor {
     pub(crate) quiet: bool,
     pub(crate) awake: bool,
     pub(crate) consumed: bool,
-    pub(crate) hidden: bool,
-    pub(crate) viewed: u8,
+    pub(crate) viewed: Option<u8>,
 }
 
-// The registers as after a soft reset: the stock image, but for register 15.
+// The registers as after a soft reset: the stock image, but for register 15. 12 and 13 are the customer's and have no name.
 fn reloaded(operation: u8) -> [u8; 62] {
     let mut r = [0u8; 62];
-    r[0x00] = 2;
-    r[0x01] = 0x10;
-    r[0x0b] = 3;
-    r[0x0c] = 20;
-    r[0x0d] = 150;
-    r[0x0e] = 160;
-    r[0x0f] = 150;
+    r[CHIP_ID] = 2;
+    r[VERSION] = 0x10;
+    r[CRITERIA] = 3;
+    r[LG_THRES] = 20;
+    r[LG_DUR] = 150;
+    r[HG_THRES] = 160;
+    r[HG_DUR] = 150;
     r[0x12] = 162;
     r[0x13] = 13;
-    r[0x14] = 14;
-    r[0x15] = operation;
-    r[0x1a] = 128;
-    r[0x1b] = 128;
-    r[0x1c] = 128;
+    r[MEASUREMENT] = 14;
+    r[OPERATION] = operation;
+    r[OFFSET_MSB] = 128;
+    r[OFFSET_MSB + 1] = 128;
+    r[OFFSET_MSB + 2] = 128;
     r
 }
 
 // The registers after a first sample of 341, -342 and 243 at 20 degrees.
 fn sampled(operation: u8) -> [u8; 62] {
     let mut r = reloaded(operation);
-    r[0x02] = 0x41;
-    r[0x03] = 0x55;
-    r[0x04] = 0x81;
-    r[0x05] = 0xaa;
-    r[0x06] = 0xc1;
-    r[0x07] = 0x3c;
-    r[0x08] = 0x64;
+    r[ACC_LSB] = 0x41;
+    r[ACC_MSB] = 0x55;
+    r[ACC_LSB + 2] = 0x81;
+    r[ACC_MSB + 2] = 0xaa;
+    r[ACC_LSB + 4] = 0xc1;
+    r[ACC_MSB + 4] = 0x3c;
+    r[TEMP] = 0x64;
     r
 }
 
@@ -57,12 +64,11 @@ pub(crate) fn start(operation: u8) -> Sensor {
         i2c: State::new(),
         frame: Frame::fresh(false),
         registers: sampled(operation),
-        operation: operation,
+        operation,
         quiet: false,
         awake: true,
         consumed: false,
-        hidden: false,
-        viewed: 0,
+        viewed: Some(0),
     }
 }
 
@@ -77,13 +83,13 @@ fn drive_number(d: Drive) -> u8 {
 
 impl Sensor {
     pub(crate) fn four_wire(self) -> bool {
-        has(self.registers[0x15], SPI4)
+        has(self.registers[OPERATION], SPI4)
     }
 
     // What a read or a write of a register meets; no image is copied, and the sensor does not sleep.
     fn gate(self) -> Gate {
         Gate {
-            control: self.registers[0x0a],
+            control: self.registers[CONTROL],
             quiet: self.quiet,
             copying: false,
             asleep: false,
@@ -100,9 +106,9 @@ impl Sensor {
 
     // The first bit of a register's byte is taken: new_data of its axis clears.
     pub(crate) fn noted(mut self, address: u8) -> Sensor {
-        if self.frame.tx.is_some() && !self.quiet && (2..=7).contains(&address) {
-            let low = usize::from(address - address % 2);
-            self.registers[low] &= 0xfe;
+        let register = usize::from(address);
+        if self.frame.tx.is_some() && !self.quiet && (ACC_LSB..TEMP).contains(&register) {
+            self.registers[register - register % 2] &= !(1 << NEW_DATA);
         }
         self
     }
@@ -115,25 +121,24 @@ impl Sensor {
             registers: reloaded(self.operation),
             quiet: true,
             awake: false,
-            hidden: false,
-            viewed: 0,
+            viewed: Some(0),
             ..self
         }
     }
 
     fn stored_at(mut self, address: u8, value: u8) -> Sensor {
-        if address < 62 {
-            self.registers[usize::from(address)] = value;
+        if let Some(register) = self.registers.get_mut(usize::from(address)) {
+            *register = value;
         }
         self
     }
 
-    // A write to a register.
+    // A write to a register. Of register 0a bit 7, reset_INT and soft_reset are not stored.
     pub(crate) fn written(self, address: u8, value: u8) -> Sensor {
         if ignores(address, value, self.gate()) || stored(address) {
             return self;
         }
-        if address != 0x0a {
+        if usize::from(address) != CONTROL {
             return self.stored_at(address, value);
         }
         if has(value, SOFT_RESET) {
@@ -163,7 +168,7 @@ impl Sensor {
 
     // Both outputs, and what the last event told.
     pub(crate) fn pins(self) -> u8 {
-        let told = u8::from(self.consumed) << 4 | u8::from(self.hidden) << 5;
+        let told = u8::from(self.consumed) << 4 | u8::from(self.viewed.is_none()) << 5;
         told | self.data_output() << 2 | self.output()
     }
 }

@@ -1,7 +1,7 @@
 // An event: 00..0f a report of the two lines (bits 3 and 2 the clock and data before, 1 and 0 after), 10 and 11 select,
 // 20 and 21 a rise with that data level, 30 a fall, 40 the quiet time ends, 60 and 61 a start in four- or three-wire
 // mode, 80..ff a view of a register. They stay the numbers of the protocol (oracle/README.md): an enum would only name each once more.
-use crate::both::{Sensor, start};
+use crate::both::{FOUR_WIRES, Sensor, THREE_WIRES, start};
 use blocks::Answers;
 use i2c::types::{Action, Levels};
 use registers::fields::has;
@@ -132,18 +132,14 @@ impl Sensor {
     }
 
     fn view(mut self, address: u8) -> Sensor {
-        match self.fetched(address) {
-            Some(b) => self.viewed = b,
-            None => self.hidden = true,
-        }
+        self.viewed = self.fetched(address);
         self
     }
 
     fn event(self, e: u8) -> Sensor {
         let s = Sensor {
             consumed: false,
-            hidden: false,
-            viewed: 0,
+            viewed: Some(0),
             ..self
         };
         match e {
@@ -154,8 +150,8 @@ impl Sensor {
             0x21 => s.rise(true),
             0x30 => s.fall(),
             0x40 => Sensor { quiet: false, ..s },
-            0x60 => start(0x88),
-            0x61 => start(0x08),
+            0x60 => start(FOUR_WIRES),
+            0x61 => start(THREE_WIRES),
             0x80..=0xff => s.view(e % 128),
             _ => s,
         }
@@ -165,6 +161,6 @@ impl Sensor {
 impl Answers<1, 2> for Sensor {
     fn answer(&mut self, item: &[u8; 1]) -> [u8; 2] {
         *self = self.event(item[0]);
-        [self.pins(), self.viewed]
+        [self.pins(), self.viewed.unwrap_or(0)]
     }
 }

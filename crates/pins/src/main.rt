@@ -5,11 +5,11 @@
 mod both;
 mod bus;
 
-use crate::both::start;
+use crate::both::{FOUR_WIRES, start};
 use std::io;
 
 fn main(rt: HostRuntime) -> io::Result<()> {
     let mut input = rt.stdin();
     let mut output = rt.stdout();
-    blocks::drive(&mut start(0x88), &mut input, &mut output)
+    blocks::drive(&mut start(FOUR_WIRES), &mut input, &mut output)
 }

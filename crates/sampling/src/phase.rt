@@ -1,9 +1,7 @@
 // One sample phase, and runs of them.
-ghost use Rattle.std.specs.Prelude.{◌≡◌, cond, not, ◌&&◌, ◌||◌, List, leb, eqb, ℤ, ◌<◌, ◌≤◌, ◌+◌, min};
+ghost use Rattle.std.specs.Prelude.{◌≡◌, ◌<◌};
 ghost use Rattle.time.specs.Clock as C;
 ghost use Rattle.analog.specs.Axis as Ax;
-ghost use Rattle.registers.specs.Map.{wake_up};
-ghost use Rattle.control.specs.Lengths.{acquisition_cycles};
 ghost use Rattle.sampling.specs.Phase as P;
 
 use crate::types::{Acquisition, Input, Sampling};
@@ -15,6 +13,8 @@ use registers::fields::{
     OPERATION, SELF_TEST_1, STATUS, TEMP, WAKE_UP, has, range,
 };
 
+// The code of an axis's sampled acceleration. An axis is a number below 3, as in the definitions: a type of three values would be cast
+// back to index. `measure` asks the same.
 #[tactic(auto, unfolding(crate::specs::Phase::converted))]
 fn converted(registers: &[u8; 62], acceleration: i64, axis: u8) -> i16
     requires { axis < 3 }
@@ -55,23 +55,6 @@ fn test_counted(test: Option<u8>) -> Option<u8>
     test.map(|n| n.saturating_sub(1))
 }
 
-// Whether the scans are observed, by the byte of 15, the window and the scans since the wake.
-fn observing(operation: u8, window: u8, cycles: u16) -> bool
-    ensures { result ≡ (not (wake_up operation) || leb (acquisition_cycles window) cycles) }
-{
-    !has(operation, WAKE_UP) || acquisition_cycles(window) <= cycles
-}
-
-// One scan in so many counts as an observation.
-fn interval(operation: u8, window: u8, cycles: u16) -> u8
-    ensures { result ≡ cond (wake_up operation && eqb cycles (acquisition_cycles window)) 1 window }
-{
-    if has(operation, WAKE_UP) && cycles == acquisition_cycles(window) {
-        return 1;
-    }
-    window
-}
-
 impl Sampling {
     // Whether the sensor has been awake for the scans of an acquisition.
     pub fn acquired(self) -> bool
@@ -80,6 +63,7 @@ impl Sampling {
         acquisition_cycles(self.filter.window()) <= self.auto_cycles
     }
 
+    // A public function stays, though nothing here calls it.
     pub fn with_test(self, test: Option<u8>) -> Sampling
         ensures { result ≡ P.with_test self test }
     {
@@ -95,117 +79,132 @@ fn lagged(s: &Sampling, input: Input, axis: u8) -> Axis
     a.sample(s.clock.last(), input.acceleration.axis(axis))
 }
 
-// The stage of an axis is sampled: its code is filtered, and the answer shown.
-fn measured(c: &mut Acquisition, input: Input, axis: u8)
-    requires { axis < 3 }
-    ensures { c.new ≡ P.measured c.old input axis }
-{
-    let a = usize::from(axis);
-    let stage = lagged(&c.sampling, input, axis);
-    let k = converted(&c.registers, stage.value(), axis);
-    c.sampling.analog = c.sampling.analog.with_axis(axis, stage);
-    let (answer, full) = c.sampling.filter.take_code(axis, k);
-    c.registers[ACC_LSB + a * 2] = code_low(answer);
-    c.registers[ACC_MSB + a * 2] = code_high(answer);
-    c.sampling.filtered[a] = answer;
-    c.sampling.means[a] = full;
-    c.interrupts = c.interrupts.axis(axis, answer, c.registers);
-}
-
-// The scan is complete: it is counted, and observed for motion.
-#[tactic(auto, unfolding(crate::specs::Phase::observed, crate::specs::Phase::observing, crate::specs::Phase::interval))]
-fn scanned(c: &mut Acquisition, needs: [u8; 4])
-    ensures { c.new ≡ P.observed (P.counted c.old) needs }
-{
-    let operation = c.registers[OPERATION];
-    let window = c.sampling.filter.window();
-    let cycles = c.sampling.auto_cycles.saturating_add(1);
-    c.sampling.data_ready = ready(c.registers, c.sampling.data_ready);
-    c.sampling.auto_cycles = cycles;
-    if observing(operation, window, cycles) {
-        let apart = interval(operation, window, cycles);
-        c.interrupts = c
-            .interrupts
-            .cycle(c.sampling.filtered, apart, c.registers, needs);
-    }
-}
-
-fn test_ended(c: &mut Acquisition)
-    ensures { c.new ≡ P.test_ended c.old }
-{
-    c.registers[CONTROL] &= 0xfb;
-    c.registers[STATUS] |= 0x80;
-    c.sampling.test = None;
-}
-
-#[tactic(auto, unfolding(crate::specs::Phase::axis_phase, crate::specs::Phase::scanned))]
-fn axis_phase(c: &mut Acquisition, input: Input, phase: u8, needs: [u8; 4])
-    requires { (0 < phase) × (phase < 4) }
-    ensures { c.new ≡ P.axis_phase c.old.sampling.test c.old input phase needs }
-{
-    match c.sampling.test {
-        None => {
-            measured(c, input, phase - 1);
-            if phase == 3 {
-                scanned(c, needs);
-            }
-        }
-        Some(left) => {
-            if phase == 3 && left == 0 {
-                test_ended(c);
-            }
-        }
-    }
-}
-
-// The phase of the clock's last edge.
-#[tactic(auto, unfolding(crate::specs::Phase::sample_phase))]
-fn sample_phase(c: &mut Acquisition, input: Input, needs: [u8; 4])
-    ensures { c.new ≡ P.sample_phase c.old input needs }
-{
-    let phase = ((c.sampling.clock.ordinal % 4 + 3) % 4) as u8;
-    c.sampling.test = test_counted(c.sampling.test);
-    if phase == 0 {
-        c.registers[TEMP] = temperature(input.temperature_millicelsius);
-        return;
-    }
-    axis_phase(c, input, phase, needs);
-}
-
-// A millisecond passes at every twelfth edge.
-#[tactic(auto, unfolding(crate::specs::Phase::ticked, crate::specs::Phase::ticks_now, crate::specs::Phase::observing))]
-fn ticked(c: &mut Acquisition)
-    ensures { c.new ≡ P.ticked c.old }
-{
-    if c.sampling.clock.ordinal % 12 == 0
-        && observing(
-            c.registers[OPERATION],
-            c.sampling.filter.window(),
-            c.sampling.auto_cycles,
-        )
-    {
-        c.interrupts = c.interrupts.millisecond(c.registers);
-    }
-}
-
-// The clock's next edge: its phase, and the millisecond.
-#[tactic(auto, unfolding(crate::specs::Phase::sample))]
-fn sample(c: &mut Acquisition, input: Input, needs: [u8; 4])
-    ensures { c.new ≡ P.sample input needs c.old }
-{
-    c.sampling.clock = c.sampling.clock.advance(1);
-    sample_phase(c, input, needs);
-    ticked(c);
-}
-
+// `input` and `needs` go from a function to the next as they do in the definitions, which are of any needs.
 impl Acquisition {
+    // Whether the scans are observed.
+    #[tactic(auto, unfolding(crate::specs::Phase::observing))]
+    fn observing(&self) -> bool
+        ensures { result ≡ P.observing self.now.registers self.now.sampling }
+    {
+        !has(self.registers[OPERATION], WAKE_UP) || self.sampling.acquired()
+    }
+
+    // One scan in so many counts as an observation.
+    #[tactic(auto, unfolding(crate::specs::Phase::interval))]
+    fn interval(&self) -> u8
+        ensures { result ≡ P.interval self.now.registers self.now.sampling }
+    {
+        let window = self.sampling.filter.window();
+        if has(self.registers[OPERATION], WAKE_UP)
+            && self.sampling.auto_cycles == acquisition_cycles(window)
+        {
+            return 1;
+        }
+        window
+    }
+
+    // The stage of an axis is sampled: its code is filtered, and the answer shown.
+    fn measure(&mut self, input: Input, axis: u8)
+        requires { axis < 3 }
+        ensures { self.new ≡ P.measured self.old input axis }
+    {
+        let a = usize::from(axis);
+        let stage = lagged(&self.sampling, input, axis);
+        let k = converted(&self.registers, stage.value(), axis);
+        self.sampling.analog = self.sampling.analog.with_axis(axis, stage);
+        let (answer, full) = self.sampling.filter.take_code(axis, k);
+        self.registers[ACC_LSB + a * 2] = code_low(answer);
+        self.registers[ACC_MSB + a * 2] = code_high(answer);
+        self.sampling.filtered[a] = answer;
+        self.sampling.means[a] = full;
+        self.interrupts = self.interrupts.axis(axis, answer, self.registers);
+    }
+
+    // The scan is complete: it is counted, and observed for motion.
+    #[tactic(auto, unfolding(crate::specs::Phase::observed))]
+    fn end_scan(&mut self, needs: [u8; 4])
+        ensures { self.new ≡ P.observed (P.counted self.old) needs }
+    {
+        self.sampling.data_ready = ready(self.registers, self.sampling.data_ready);
+        self.sampling.auto_cycles = self.sampling.auto_cycles.saturating_add(1);
+        if self.observing() {
+            let apart = self.interval();
+            self.interrupts = self
+                .interrupts
+                .cycle(self.sampling.filtered, apart, self.registers, needs);
+        }
+    }
+
+    fn end_test(&mut self)
+        ensures { self.new ≡ P.test_ended self.old }
+    {
+        self.registers[CONTROL] &= 0xfb;
+        self.registers[STATUS] |= 0x80;
+        self.sampling.test = None;
+    }
+
+    // A phase of an axis: phases 1 to 3 are 01's numbers, and so are the definitions'.
+    #[tactic(auto, unfolding(crate::specs::Phase::axis_phase, crate::specs::Phase::scanned))]
+    fn axis_phase(&mut self, input: Input, phase: u8, needs: [u8; 4])
+        requires { (0 < phase) × (phase < 4) }
+        ensures { self.new ≡ P.axis_phase self.old.sampling.test self.old input phase needs }
+    {
+        match self.sampling.test {
+            None => {
+                self.measure(input, phase - 1);
+                if phase == 3 {
+                    self.end_scan(needs);
+                }
+            }
+            Some(left) => {
+                if phase == 3 && left == 0 {
+                    self.end_test();
+                }
+            }
+        }
+    }
+
+    // The phase of the clock's last edge.
+    #[tactic(auto, unfolding(crate::specs::Phase::sample_phase))]
+    fn sample_phase(&mut self, input: Input, needs: [u8; 4])
+        ensures { self.new ≡ P.sample_phase self.old input needs }
+    {
+        let phase = ((self.sampling.clock.ordinal % 4 + 3) % 4) as u8;
+        self.sampling.test = test_counted(self.sampling.test);
+        if phase == 0 {
+            self.registers[TEMP] = temperature(input.temperature_millicelsius);
+            return;
+        }
+        self.axis_phase(input, phase, needs);
+    }
+
+    // A millisecond passes at every twelfth edge.
+    #[tactic(auto, unfolding(crate::specs::Phase::ticked, crate::specs::Phase::ticks_now))]
+    fn tick(&mut self)
+        ensures { self.new ≡ P.ticked self.old }
+    {
+        if self.sampling.clock.ordinal % 12 == 0 && self.observing() {
+            self.interrupts = self.interrupts.millisecond(self.registers);
+        }
+    }
+
+    // The clock's next edge: its phase, and the millisecond.
+    #[tactic(auto, unfolding(crate::specs::Phase::sample))]
+    fn sample(&mut self, input: Input, needs: [u8; 4])
+        ensures { self.new ≡ P.sample input needs self.old }
+    {
+        self.sampling.clock = self.sampling.clock.advance(1);
+        self.sample_phase(input, needs);
+        self.tick();
+    }
+
     // The phases of n edges, one after the other.
     #[tactic(auto, unfolding(laws::specs::Iterate::iterate))]
     pub fn samples(mut self, n: u64, input: Input, needs: [u8; 4]) -> Acquisition
         ensures { result ≡ P.samples n self input needs }
     {
         for _ in 0..n {
-            sample(&mut self, input, needs);
+            self.sample(input, needs);
         }
         self
     }

@@ -26,29 +26,29 @@ abbrev pub next_size : (k N : ℕ) → ℕ
 next_size k N = ((N + N) * 2 ^ 44 + unit * k / 2) / (unit * k)
 
 -- one term: its two parts, and the sums with it
-module _ (angle n N R I : ℕ) (s : Series) (small : angle ≤ 2 ^ 44) (p : unsigned_abs s.tr ≤ N) (q : unsigned_abs s.ti ≤ N) where
+module _ (angle n N R I : ℕ) (s : Series) (small : angle ≤ 2 ^ 44) (p : unsigned_abs s.last.re ≤ N) (q : unsigned_abs s.last.im ≤ N) where
   positive : 0 < unit * suc n
   positive = mul-pos (lit< tt) (zero-lt-suc n)
 
-  term_tr : unsigned_abs (term angle (suc n) s).tr ≤ next_size (suc n) N
+  term_tr : unsigned_abs (term angle (suc n) s).last.re ≤ next_size (suc n) N
   unfolding term
   term_tr =
-      abs_round_le ((neg_ℤ s.tr -ℤ s.ti) *ℤ pos angle) (unit * suc n) ((N + N) * 2 ^ 44) positive
-      (down_product s.tr s.ti angle (2 ^ 44) N p q small)
+      abs_round_le ((neg_ℤ s.last.re -ℤ s.last.im) *ℤ pos angle) (unit * suc n) ((N + N) * 2 ^ 44) positive
+      (down_product s.last.re s.last.im angle (2 ^ 44) N p q small)
 
-  term_ti : unsigned_abs (term angle (suc n) s).ti ≤ next_size (suc n) N
+  term_ti : unsigned_abs (term angle (suc n) s).last.im ≤ next_size (suc n) N
   unfolding term
   term_ti =
-      abs_round_le ((s.tr -ℤ s.ti) *ℤ pos angle) (unit * suc n) ((N + N) * 2 ^ 44) positive
-      (up_product s.tr s.ti angle (2 ^ 44) N p q small)
+      abs_round_le ((s.last.re -ℤ s.last.im) *ℤ pos angle) (unit * suc n) ((N + N) * 2 ^ 44) positive
+      (up_product s.last.re s.last.im angle (2 ^ 44) N p q small)
 
-  term_re : unsigned_abs s.re ≤ R → unsigned_abs (term angle (suc n) s).re ≤ R + next_size (suc n) N
+  term_re : unsigned_abs s.sum.re ≤ R → unsigned_abs (term angle (suc n) s).sum.re ≤ R + next_size (suc n) N
   unfolding term
-  term_re r = abs_add s.re (term angle (suc n) s).tr R (next_size (suc n) N) r term_tr
+  term_re r = abs_add s.sum.re (term angle (suc n) s).last.re R (next_size (suc n) N) r term_tr
 
-  term_im : unsigned_abs s.im ≤ I → unsigned_abs (term angle (suc n) s).im ≤ I + next_size (suc n) N
+  term_im : unsigned_abs s.sum.im ≤ I → unsigned_abs (term angle (suc n) s).sum.im ≤ I + next_size (suc n) N
   unfolding term
-  term_im r = abs_add s.im (term angle (suc n) s).ti I (next_size (suc n) N) r term_ti
+  term_im r = abs_add s.sum.im (term angle (suc n) s).last.im I (next_size (suc n) N) r term_ti
 
 -- no term is above 1
 at_most_one : (n : ℕ) → next_size (suc n) (2 ^ 48) ≤ 2 ^ 48
@@ -56,7 +56,7 @@ at_most_one n = div-le_of_le-mul (unit * suc n) (omega arith)
 
 -- the last term is at most 1, and the sums of n terms at most n + 1
 abbrev pub Small : (n : ℕ) → Series → Type 0
-Small n s = (unsigned_abs s.tr ≤ 2 ^ 48) × (unsigned_abs s.ti ≤ 2 ^ 48) × (unsigned_abs s.re ≤ (n + 1) * 2 ^ 48) × (unsigned_abs s.im ≤ (n + 1) * 2 ^ 48)
+Small n s = (unsigned_abs s.last.re ≤ 2 ^ 48) × (unsigned_abs s.last.im ≤ 2 ^ 48) × (unsigned_abs s.sum.re ≤ (n + 1) * 2 ^ 48) × (unsigned_abs s.sum.im ≤ (n + 1) * 2 ^ 48)
 
 -- one more term
 small_step : (angle n : ℕ) (s : Series) → angle ≤ 2 ^ 44 → Small n s → Small (suc n) (term angle (suc n) s)
@@ -101,28 +101,28 @@ twelve = refl
 exact : (angle : ℕ) → (2 ^ 48 * angle + 2 ^ 48 / 2) / 2 ^ 48 ≡ angle
 exact angle = omega arith
 
-first_tr : (angle : ℕ) → (terms angle 1).tr ≡ neg_ℤ (pos angle)
+first_tr : (angle : ℕ) → (terms angle 1).last.re ≡ neg_ℤ (pos angle)
 unfolding term terms
 first_tr angle = round_signed true (2 ^ 48 * angle) (2 ^ 48) (lit< tt) ∙ ap (λ (n : ℕ). neg_ℤ (pos n)) (exact angle)
 
-first_ti : (angle : ℕ) → (terms angle 1).ti ≡ pos angle
+first_ti : (angle : ℕ) → (terms angle 1).last.im ≡ pos angle
 unfolding term terms
 first_ti angle = round_signed false (2 ^ 48 * angle) (2 ^ 48) (lit< tt) ∙ ap pos (exact angle)
 
 -- the sums after it
-first_re : (angle : ℕ) → (terms angle 1).re ≡ pos unit -ℤ pos angle
+first_re : (angle : ℕ) → (terms angle 1).sum.re ≡ pos unit -ℤ pos angle
 unfolding term terms
 first_re angle = ap (λ z. pos unit +ℤ z) (first_tr angle)
 
-first_im : (angle : ℕ) → (terms angle 1).im ≡ pos (0 + angle)
+first_im : (angle : ℕ) → (terms angle 1).sum.im ≡ pos (0 + angle)
 unfolding term terms
 first_im angle = ap (λ z. pos 0 +ℤ z) (first_ti angle)
 
 -- the first term and the later ones, with the sums so far
 abbrev Finer : (n : ℕ) → Series → Type 0
 Finer n s =
-    (unsigned_abs s.tr ≤ later n) × (unsigned_abs s.ti ≤ later n) × (unsigned_abs s.re ≤ 2 ^ 48 - 2 ^ 43 + later_sum n)
-    × (unsigned_abs s.im ≤ 2 ^ 44 + later_sum n)
+    (unsigned_abs s.last.re ≤ later n) × (unsigned_abs s.last.im ≤ later n) × (unsigned_abs s.sum.re ≤ 2 ^ 48 - 2 ^ 43 + later_sum n)
+    × (unsigned_abs s.sum.im ≤ 2 ^ 44 + later_sum n)
 
 -- the first term
 finer_first : (angle : ℕ) → 2 ^ 43 ≤ angle → angle ≤ 2 ^ 44 → Finer 0 (terms angle 1)

@@ -142,14 +142,14 @@ such_a_state = (sfits_lit tt, sfits_lit tt, sfits_lit tt)
 -- ---- a term of the series
 pub record TermFits (angle n : ℕ) (s : Series) : Type 0 where
   pub divisor_fits : unit * n < 2 ^ 127
-  pub down_fits : Room 0 (neg_ℤ s.tr -ℤ s.ti)
-  pub up_fits : Room 0 (s.tr -ℤ s.ti)
-  pub down_product_fits : Room (unit * n / 2) ((neg_ℤ s.tr -ℤ s.ti) *ℤ pos angle)
-  pub up_product_fits : Room (unit * n / 2) ((s.tr -ℤ s.ti) *ℤ pos angle)
-  pub next_tr_fits : Room 0 (term angle n s).tr
-  pub next_ti_fits : Room 0 (term angle n s).ti
-  pub next_re_fits : Room 0 (term angle n s).re
-  pub next_im_fits : Room 0 (term angle n s).im
+  pub down_fits : Room 0 (neg_ℤ s.last.re -ℤ s.last.im)
+  pub up_fits : Room 0 (s.last.re -ℤ s.last.im)
+  pub down_product_fits : Room (unit * n / 2) ((neg_ℤ s.last.re -ℤ s.last.im) *ℤ pos angle)
+  pub up_product_fits : Room (unit * n / 2) ((s.last.re -ℤ s.last.im) *ℤ pos angle)
+  pub next_tr_fits : Room 0 (term angle n s).last.re
+  pub next_ti_fits : Room 0 (term angle n s).last.im
+  pub next_re_fits : Room 0 (term angle n s).sum.re
+  pub next_im_fits : Room 0 (term angle n s).sum.im
 
 -- the same with a bound of what is added
 room_le : (h H N : ℕ) (z : ℤ) → unsigned_abs z ≤ N → h ≤ H → T (nat_lt (N + H) (2 ^ 127)) → Room h z
@@ -169,11 +169,11 @@ module _ (angle n : ℕ) (small : angle ≤ 2 ^ 44) (few : n < 12) where
   unfolding terms
   next_small = terms_small angle (suc n) small few
 
-  up_size : unsigned_abs (before.tr -ℤ before.ti) ≤ 2 ^ 48 + 2 ^ 48
-  up_size = abs_sub before.tr before.ti (2 ^ 48) (2 ^ 48) now_small.0 now_small.1
+  up_size : unsigned_abs (before.last.re -ℤ before.last.im) ≤ 2 ^ 48 + 2 ^ 48
+  up_size = abs_sub before.last.re before.last.im (2 ^ 48) (2 ^ 48) now_small.0 now_small.1
 
-  down_size : unsigned_abs (neg_ℤ before.tr -ℤ before.ti) ≤ 2 ^ 48 + 2 ^ 48
-  down_size = abs_sub (neg_ℤ before.tr) before.ti (2 ^ 48) (2 ^ 48) (rw (abs_neg before.tr) now_small.0) now_small.1
+  down_size : unsigned_abs (neg_ℤ before.last.re -ℤ before.last.im) ≤ 2 ^ 48 + 2 ^ 48
+  down_size = abs_sub (neg_ℤ before.last.re) before.last.im (2 ^ 48) (2 ^ 48) (rw (abs_neg before.last.re) now_small.0) now_small.1
 
   half_size : unit * suc n / 2 ≤ unit * 12 / 2
   half_size = div_mono (unit * suc n) (unit * 12) 2 (lit< tt) (mul-le-mul_left unit few)
@@ -186,18 +186,18 @@ module _ (angle n : ℕ) (small : angle ≤ 2 ^ 44) (few : n < 12) where
   term_fits =
       record {
         divisor_fits = lt_of_le_of_lt (mul-le-mul_left unit few) (lit< tt);
-        down_fits = room 0 (2 ^ 48 + 2 ^ 48) (neg_ℤ before.tr -ℤ before.ti) down_size tt;
-        up_fits = room 0 (2 ^ 48 + 2 ^ 48) (before.tr -ℤ before.ti) up_size tt;
+        down_fits = room 0 (2 ^ 48 + 2 ^ 48) (neg_ℤ before.last.re -ℤ before.last.im) down_size tt;
+        up_fits = room 0 (2 ^ 48 + 2 ^ 48) (before.last.re -ℤ before.last.im) up_size tt;
         down_product_fits =
-            room_le (unit * suc n / 2) (unit * 12 / 2) P ((neg_ℤ before.tr -ℤ before.ti) *ℤ pos angle)
-            (abs_mul_le (neg_ℤ before.tr -ℤ before.ti) (pos angle) (2 ^ 48 + 2 ^ 48) (2 ^ 44) down_size small) half_size tt;
+            room_le (unit * suc n / 2) (unit * 12 / 2) P ((neg_ℤ before.last.re -ℤ before.last.im) *ℤ pos angle)
+            (abs_mul_le (neg_ℤ before.last.re -ℤ before.last.im) (pos angle) (2 ^ 48 + 2 ^ 48) (2 ^ 44) down_size small) half_size tt;
         up_product_fits =
-            room_le (unit * suc n / 2) (unit * 12 / 2) P ((before.tr -ℤ before.ti) *ℤ pos angle)
-            (abs_mul_le (before.tr -ℤ before.ti) (pos angle) (2 ^ 48 + 2 ^ 48) (2 ^ 44) up_size small) half_size tt;
-        next_tr_fits = room 0 (2 ^ 48) (term angle (suc n) before).tr next_small.0 tt;
-        next_ti_fits = room 0 (2 ^ 48) (term angle (suc n) before).ti next_small.1 tt;
-        next_re_fits = room 0 (13 * 2 ^ 48) (term angle (suc n) before).re (le_trans next_small.2 total_size) tt;
-        next_im_fits = room 0 (13 * 2 ^ 48) (term angle (suc n) before).im (le_trans next_small.3 total_size) tt;
+            room_le (unit * suc n / 2) (unit * 12 / 2) P ((before.last.re -ℤ before.last.im) *ℤ pos angle)
+            (abs_mul_le (before.last.re -ℤ before.last.im) (pos angle) (2 ^ 48 + 2 ^ 48) (2 ^ 44) up_size small) half_size tt;
+        next_tr_fits = room 0 (2 ^ 48) (term angle (suc n) before).last.re next_small.0 tt;
+        next_ti_fits = room 0 (2 ^ 48) (term angle (suc n) before).last.im next_small.1 tt;
+        next_re_fits = room 0 (13 * 2 ^ 48) (term angle (suc n) before).sum.re (le_trans next_small.2 total_size) tt;
+        next_im_fits = room 0 (13 * 2 ^ 48) (term angle (suc n) before).sum.im (le_trans next_small.3 total_size) tt;
       }
 
 -- ---- a square

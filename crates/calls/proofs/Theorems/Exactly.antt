@@ -1,7 +1,8 @@
 -- A call gets number n exactly if n is that of the first fault of 01's table that is there, or 0 where there is none.
 use Rattle.std.specs.Prelude.{ℕ, ◌/◌, ◌%◌, ◌^◌, ◌≤◌, ◌<◌, ◌≡◌, refl, Bool, true, false, not, ◌&&◌, ◌||◌, ◌⊎◌, List, [], ◌∷◌, ltb, eqb, ℤ, pos, negsuc, nat_abs, Option, Some, None}
-use Rattle.std.proofs.Common.{arith, sym, ap, ◌∙◌, inl, inr, leb-true, le-leb, ltb-true, lt-ltb, eqb-true, eq-eqb, ne_eqb}
+use Rattle.std.proofs.Common.{arith, sym, ap, ◌∙◌, inl, inr, leb-true, le-leb, ltb-true, lt-ltb, eqb-true, eq-eqb}
 use Rattle.std.specs.Bool.{beq}
+use Rattle.std.proofs.lemmas.Bool.{or_cases, or_left, or_right, not-true, not-false, not_from_false, false_from_ne_true}
 use Rattle.time.specs.declared.Time.{Time}
 use Rattle.time.specs.Time.{ticks}
 use Rattle.analog.specs.Axis.{Acceleration}
@@ -110,37 +111,18 @@ start_faults by now length measurement = fault 1 (length ≡ 19 → ⊥) ∷ fau
 
 -- ---- the tests of the table find exactly these
 
-length_only : (n : ℕ) → not (eqb n 19) ≡ true → n ≡ 19 → ⊥
-length_only n p e = never (sym (ap not (eq-eqb n 19 e)) ∙ p)
-
-length_whole : (n : ℕ) → (n ≡ 19 → ⊥) → not (eqb n 19) ≡ true
-length_whole n p = ap not (ne_eqb n 19 p)
-
 axis_only : (axis : ℤ) → beyond axis ≡ true → Beyond axis
 unfolding beyond
-axis_only (pos n) p = ltb-true 1000000000 n (go (ltb 1000000000 n) p)
-  where
-    go : (b : Bool) → (b || false) ≡ true → b ≡ true
-    go true q = refl
-    go false q = q
+axis_only (pos n) p = elim (or_cases (ltb 1000000000 n) false p) [ inl q ↦ ltb-true 1000000000 n q | inr q ↦ never q ]
 axis_only (negsuc n) p = let q : 999999999 < n = ltb-true 999999999 n p in omega arith
 
 axis_whole : (axis : ℤ) → Beyond axis → beyond axis ≡ true
 unfolding beyond
-axis_whole (pos n) p = ap (λ (b : Bool). b || false) (lt-ltb 1000000000 n p)
+axis_whole (pos n) p = or_left (ltb 1000000000 n) false (lt-ltb 1000000000 n p)
 axis_whole (negsuc n) p = lt-ltb 999999999 n (omega arith)
 
 either_only : {P Q : Type 0} (a b : Bool) → (a ≡ true → P) → (b ≡ true → Q) → (a || b) ≡ true → P ⊎ Q
-either_only true b p q e = inl (p refl)
-either_only false b p q e = inr (q e)
-
-either_left : (a b : Bool) → a ≡ true → (a || b) ≡ true
-either_left true b e = refl
-either_left false b e = never e
-
-either_right : (a b : Bool) → b ≡ true → (a || b) ≡ true
-either_right true b e = refl
-either_right false b e = e
+either_only a b p q e = elim (or_cases a b e) [ inl x ↦ inl (p x) | inr y ↦ inr (q y) ]
 
 axes_only : (input : Acceleration) → any_beyond input ≡ true → AnyBeyond input
 unfolding any_beyond
@@ -148,9 +130,9 @@ axes_only a p = either_only (beyond a.x) (beyond a.y || beyond a.z) (axis_only a
 
 axes_whole : (input : Acceleration) → AnyBeyond input → any_beyond input ≡ true
 unfolding any_beyond
-axes_whole a (inl p) = either_left (beyond a.x) _ (axis_whole a.x p)
-axes_whole a (inr (inl p)) = either_right (beyond a.x) _ (either_left (beyond a.y) _ (axis_whole a.y p))
-axes_whole a (inr (inr p)) = either_right (beyond a.x) _ (either_right (beyond a.y) _ (axis_whole a.z p))
+axes_whole a (inl p) = or_left (beyond a.x) _ (axis_whole a.x p)
+axes_whole a (inr (inl p)) = or_right (beyond a.x) _ (or_left (beyond a.y) _ (axis_whole a.y p))
+axes_whole a (inr (inr p)) = or_right (beyond a.x) _ (or_right (beyond a.y) _ (axis_whole a.z p))
 
 by_only : (due : Option Time) (now : Time) → is_by due now ≡ true → DueBy due now
 unfolding is_by
@@ -173,19 +155,17 @@ at_whole None now p = absurd p
 at_whole (Some d) now p = eq-eqb (ticks d) (ticks now) p
 
 not_only : {P : Type 0} (b : Bool) → (P → b ≡ true) → not b ≡ true → P → ⊥
-not_only true f e p = never e
-not_only false f e p = never (f p)
+not_only b f e p = never (sym (not-true b e) ∙ f p)
 
 not_whole : {P : Type 0} (b : Bool) → (b ≡ true → P) → (P → ⊥) → not b ≡ true
-not_whole true f g = absurd (g (f refl))
-not_whole false f g = refl
+not_whole b f g = not_from_false b (false_from_ne_true b (λ e. g (f e)))
 
 -- a test that does not apply
 never_tells : Tells ⊥ false
 never_tells = record { only = never; whole = absurd }
 
 length_tells : (n : ℕ) → Tells (n ≡ 19 → ⊥) (not (eqb n 19))
-length_tells n = record { only = length_only n; whole = length_whole n }
+length_tells n = record { only = not_only (eqb n 19) (eq-eqb n 19); whole = not_whole (eqb n 19) (eqb-true n 19) }
 
 late_tells : (now : Time) → Tells (2 ^ 32 ≤ now.0) (late now)
 unfolding late
@@ -205,8 +185,8 @@ axes_tell input = record { only = axes_only input; whole = axes_whole input }
 
 reserved_whole : (m : ℕ) → Reserved m → reserved m ≡ true
 unfolding reserved
-reserved_whole m (inl p) = either_left (eqb (m / 8 % 4) 3) _ (eq-eqb (m / 8 % 4) 3 p)
-reserved_whole m (inr p) = either_right (eqb (m / 8 % 4) 3) _ (eq-eqb (m % 8) 7 p)
+reserved_whole m (inl p) = or_left (eqb (m / 8 % 4) 3) _ (eq-eqb (m / 8 % 4) 3 p)
+reserved_whole m (inr p) = or_right (eqb (m / 8 % 4) 3) _ (eq-eqb (m % 8) 7 p)
 
 reserved_only : (m : ℕ) → reserved m ≡ true → Reserved m
 unfolding reserved
@@ -265,6 +245,7 @@ module _ (last : Time) (due : Option Time) (lines : Levels) where
       → Found c
   found c length limit back axis jump due_first not_due = ((refl, length), ((refl, limit), ((refl, back), ((refl, axis), ((refl, jump), ((refl, due_first), ((refl, not_due), tt)))))))
 
+  -- a row for each: what is asked of a timed call computes only once it is known which call it is
   timed_found : (now : Time) (t : Timed) → Found (Call.At now t)
   unfolding facts timed_facts wrong_length too_late goes_back out_of_range jumps before_due beside_due due_by due_at
   timed_found now (Timed.Accelerations input) = found (Call.At now (Timed.Accelerations input)) never_tells (late_tells now) (back_tells last now) (axes_tell input) never_tells (by_tells due now) never_tells
@@ -306,11 +287,7 @@ module _ (by : Starting) (now : Time) (length measurement : ℕ) where
   start_refused_whole n p = first_is_found _ start_rows (start_faults by now length measurement) start_finds n p
 
 -- so an accepted pin report follows on
-is_true : (b : Bool) → not b ≡ false → b ≡ true
-is_true true e = refl
-is_true false e = never (sym e)
-
 pub follows_on : (last : Time) (due : Option Time) (lines : Levels) (now : Time) (before after : Levels) → eqb (refusal last due lines (Call.At now (Timed.Pins before after))) 0 ≡ true → before ≡ lines
 unfolding facts timed_facts jumps
 follows_on last due lines now before after e =
-    same_only lines before (is_true (same_levels lines before) (clear last due lines (Call.At now (Timed.Pins before after)) e).1.1.1.1.0)
+    same_only lines before (not-false (same_levels lines before) (clear last due lines (Call.At now (Timed.Pins before after)) e).1.1.1.1.0)

@@ -14,4 +14,4 @@ pub returns : goal.returns
 returns c =
     let h = c.halved-squares in
     let l : c.args.dt < settling = c.if-dt-ge-SETTLING.false in
-    c.raised.ensures ∙ ap (iterate h.result.1 squared) c.series.ensures ∙ sym h.ensures.0 ∙ sym (decay_keeps c.args.dt l)
+    c.raised.ensures ∙ ap (iterate h.result.1 squared) c.series.ensures ∙ sym (rw c.from.ensures at h.ensures.0) ∙ sym (decay_keeps c.args.dt l)

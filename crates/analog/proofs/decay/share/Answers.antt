@@ -37,7 +37,7 @@ returns-then-x-lt0 c =
     let e = to_z-of_z w64 x.x c.ranges.x in
     let m : c.unsigned_abs.result ≡ nat_abs x.x = rw e at c.unsigned_abs.ensures.value in
     let r = read_64 (below x.x c.unsigned_abs.result x.angle.size x.n m p.0 x.angle.small p.1 p.2 (rw e at c.if-x-lt0.true)) tt in
-    (r.is, rw r.is r.le)
+    rw (c.from.ensures, c.from-2.ensures, c.from-3.ensures) (r.is, rw r.is r.le)
 
 pub returns-else-x-lt0 : goal.returns-else-x-lt0
 returns-else-x-lt0 c =
@@ -45,4 +45,4 @@ returns-else-x-lt0 c =
     let e = to_z-of_z w64 x.x c.ranges.x in
     let m : c.unsigned_abs.result ≡ nat_abs x.x = rw e at c.unsigned_abs.ensures.value in
     let r = above x.x c.unsigned_abs.result x.angle.size x.n m p.0 x.angle.small p.1 p.2 (rw e at c.if-x-lt0.false) in
-    (r.is, rw r.is r.le)
+    rw (c.from.ensures, c.from-2.ensures, c.from-3.ensures) (r.is, rw r.is r.le)

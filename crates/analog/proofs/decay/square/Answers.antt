@@ -28,29 +28,29 @@ module _ (f : Factors) (p : Below f) where
     second e = let h = rounded unit r e (lit< tt) (read twice tt) in record { is = h.is; le = le_of_lt q.1 }
 
 pub overflow_sub-re : goal.overflow_sub-re
-overflow_sub-re c = fits (difference c.args.f c.requires.0) tt
+overflow_sub-re c = rw (c.from-re.ensures, c.from-im.ensures) (fits (difference c.args.f c.requires.0) tt)
 
 pub round-requires : goal.round-requires
-round-requires c = (within (2 ^ 126) (read (difference c.args.f c.requires.0) tt) tt, lit< tt)
+round-requires c = rw (c.from-re.ensures, c.from-im.ensures) (within (2 ^ 126) (read (difference c.args.f c.requires.0) tt) tt, lit< tt)
 
 pub overflow_cast-result : goal.overflow_cast-result
-overflow_cast-result c = fits_64 (read (first c.args.f c.requires.0 c.requires.1 c.round.result c.round.ensures.0) tt) tt
+overflow_cast-result c = fits_64 (read (first c.args.f c.requires.0 c.requires.1 c.round.result (rw (c.from-re.ensures, c.from-im.ensures) at c.round.ensures.0)) tt) tt
 
 pub overflow_mul-re-2 : goal.overflow_mul-re-2
-overflow_mul-re-2 c = fits (two c.args.f c.requires.0) tt
+overflow_mul-re-2 c = rw c.from-re.ensures (fits (two c.args.f c.requires.0) tt)
 
 pub overflow_mul-re-3 : goal.overflow_mul-re-3
-overflow_mul-re-3 c = fits (twice c.args.f c.requires.0) tt
+overflow_mul-re-3 c = rw (c.from-re.ensures, c.from-im.ensures) (fits (twice c.args.f c.requires.0) tt)
 
 pub round-requires-2 : goal.round-requires-2
-round-requires-2 c = (within (2 ^ 126) (read (twice c.args.f c.requires.0) tt) tt, lit< tt)
+round-requires-2 c = rw (c.from-re.ensures, c.from-im.ensures) (within (2 ^ 126) (read (twice c.args.f c.requires.0) tt) tt, lit< tt)
 
 pub overflow_cast-result-2 : goal.overflow_cast-result-2
-overflow_cast-result-2 c = fits_64 (read (second c.args.f c.requires.0 c.requires.1 c.round-2.result c.round-2.ensures.0) tt) tt
+overflow_cast-result-2 c = fits_64 (read (second c.args.f c.requires.0 c.requires.1 c.round-2.result (rw (c.from-re.ensures, c.from-im.ensures) at c.round-2.ensures.0)) tt) tt
 
 pub returns : goal.returns
 returns c =
     let f = c.args.f in let p = c.requires in
-    let a = read_64 (read (first f p.0 p.1 c.round.result c.round.ensures.0) tt) tt in
-    let b = read_64 (read (second f p.0 p.1 c.round-2.result c.round-2.ensures.0) tt) tt in
+    let a = read_64 (read (first f p.0 p.1 c.round.result (rw (c.from-re.ensures, c.from-im.ensures) at c.round.ensures.0)) tt) tt in
+    let b = read_64 (read (second f p.0 p.1 c.round-2.result (rw (c.from-re.ensures, c.from-im.ensures) at c.round-2.ensures.0)) tt) tt in
     λ i. record { re = a.is i; im = b.is i }

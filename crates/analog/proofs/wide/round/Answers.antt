@@ -11,6 +11,6 @@ returns c =
     let l : d < 2 ^ 64 = c.ranges.d.fits in
     let e = to_z-of_z w128 n c.ranges.n in
     elim c.if-n-lt0.branch [
-      | then-n-lt0 w ↦ rounded_below n d p.0 p.1 l _ w.result-is (rw e at w.if-n-lt0.true)
-      | else-n-lt0 w ↦ rounded_above n d p.0 p.1 l _ w.result-is (rw e at w.if-n-lt0.false)
+      | then-n-lt0 w ↦ rw c.from.ensures (rounded_below n d p.0 p.1 l _ (rw c.from-half.ensures at w.result-is) (rw e at w.if-n-lt0.true))
+      | else-n-lt0 w ↦ rw c.from.ensures (rounded_above n d p.0 p.1 l _ (rw c.from-half.ensures at w.result-is) (rw e at w.if-n-lt0.false))
     ]

@@ -1,0 +1,68 @@
+// What a record asks (oracle/README.md, "Leaves").
+#[derive(Clone, Copy)]
+pub(crate) enum Kind {
+    Plus,
+    Since,
+    NextUnit,
+    Compared,
+    Millis,
+    Micros,
+    Edges,
+    Last,
+    Next,
+    Torn,
+    Ends,
+    Code,
+    Temperature,
+    Access,
+    NewFilter,
+    Select,
+    Push,
+    SetRegister,
+    NewInterrupts,
+    Configure,
+    Restart,
+    Reset,
+    Axis,
+    Cycle,
+    Millisecond,
+    Shown,
+    Rest,
+    Advance,
+}
+
+// A byte that the table does not list asks something too: when a write ends, a push, what the interrupts show, or an advance.
+impl From<u8> for Kind {
+    fn from(byte: u8) -> Kind {
+        match byte {
+            0x01 => Kind::Plus,
+            0x02 => Kind::Since,
+            0x03 => Kind::NextUnit,
+            0x04 => Kind::Compared,
+            0x05 => Kind::Millis,
+            0x06 => Kind::Micros,
+            0x07 => Kind::Edges,
+            0x08 => Kind::Last,
+            0x09 => Kind::Next,
+            0x0a => Kind::Torn,
+            0x10 => Kind::Code,
+            0x11 => Kind::Temperature,
+            0x12 => Kind::Access,
+            0x00..=0x1f => Kind::Ends,
+            0x20 => Kind::NewFilter,
+            0x21 => Kind::Select,
+            0x22..=0x2f => Kind::Push,
+            0x30 => Kind::SetRegister,
+            0x31 => Kind::NewInterrupts,
+            0x32 => Kind::Configure,
+            0x33 => Kind::Restart,
+            0x34 => Kind::Reset,
+            0x35 => Kind::Axis,
+            0x36 => Kind::Cycle,
+            0x37 => Kind::Millisecond,
+            0x38..=0x3f => Kind::Shown,
+            0x40 => Kind::Rest,
+            0x41..=0xff => Kind::Advance,
+        }
+    }
+}
