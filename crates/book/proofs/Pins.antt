@@ -151,13 +151,13 @@ rising_keeps s mosi now = go (spi_listens s) s.frame.turnaround
 
 -- ---- I2C
 
-acted_keeps : (a : Action) (s : Sensor) (x : State) (now : Time) → Keeps (with_writing s (begun_writing (action_write a) s now)) (acted a (with_i2c s x) now)
+acted_keeps : (a : Option Action) (s : Sensor) (x : State) (now : Time) → Keeps (with_writing s (begun_writing (action_write a) s now)) (acted a (with_i2c s x) now)
 unfolding acted action_write accepted_write of_write operation
-acted_keeps Action.Nothing s x now = record { same = refl }
-acted_keeps Action.Drop s x now = record { same = refl }
-acted_keeps (Action.Write r v) s x now = then {t = with_writing (with_i2c s x) (begun_writing (Some (r, v)) s now)} (record { same = refl }) (then (register_keeps (with_i2c s x) r v now) (record { same = refl }))
-acted_keeps (Action.Launch r) s x now = then {t = with_i2c s x} (record { same = refl }) (then (fetched_keeps (peek (with_i2c s x) r) (with_i2c s x) r) (record { same = refl }))
-acted_keeps (Action.ReadBegan r) s x now = then {t = with_i2c s x} (record { same = refl }) (byte_read_keeps s.frame.tx (with_i2c s x) r)
+acted_keeps None s x now = record { same = refl }
+acted_keeps (Some Action.Drop) s x now = record { same = refl }
+acted_keeps (Some (Action.Write r v)) s x now = then {t = with_writing (with_i2c s x) (begun_writing (Some (r, v)) s now)} (record { same = refl }) (then (register_keeps (with_i2c s x) r v now) (record { same = refl }))
+acted_keeps (Some (Action.Launch r)) s x now = then {t = with_i2c s x} (record { same = refl }) (then (fetched_keeps (peek (with_i2c s x) r) (with_i2c s x) r) (record { same = refl }))
+acted_keeps (Some (Action.ReadBegan r)) s x now = then {t = with_i2c s x} (record { same = refl }) (byte_read_keeps s.frame.tx (with_i2c s x) r)
 
 pub pins_keeps : (s : Sensor) (e : Edge) (now : Time) → Keeps (with_writing s (begun_writing (i2c_write s e) s now)) (i2c_pins s e now)
 unfolding i2c_pins i2c_write accepted_write

@@ -31,12 +31,12 @@ unfoldable pub spi_write : Sensor → (mosi : Bool) → Option (ℕ × ℕ)
 spi_write s mosi = if spi_listens s && not s.frame.turnaround then (F.take_bit s.frame mosi (four_wire s)).write else None
 
 -- I2C: the eighth rise of a value byte
-unfoldable pub action_write : Action → Option (ℕ × ℕ)
-action_write Action.Nothing = None
-action_write Action.Drop = None
-action_write (Action.Write register value) = Some (register, value)
-action_write (Action.Launch register) = None
-action_write (Action.ReadBegan register) = None
+unfoldable pub action_write : Option Action → Option (ℕ × ℕ)
+action_write None = None
+action_write (Some Action.Drop) = None
+action_write (Some (Action.Write register value)) = Some (register, value)
+action_write (Some (Action.Launch register)) = None
+action_write (Some (Action.ReadBegan register)) = None
 
 unfoldable pub i2c_write : Sensor → Edge → Option (ℕ × ℕ)
 i2c_write s e = if i2c_listens s then action_write (E.step s.i2c e (is_quiet s) (ones_for s.frame.tx)).action else None

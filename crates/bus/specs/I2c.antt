@@ -1,5 +1,5 @@
 -- The I2C bus as the reports of a list of calls have it, and what the sensor does on it.
-use Rattle.std.specs.Prelude.{ℕ, ◌≡◌, Bool, true, false, ◌&&◌, ◌||◌, List, [], ◌∷◌, ltb, if◌then◌else◌, None}
+use Rattle.std.specs.Prelude.{ℕ, ◌≡◌, Bool, true, false, ◌&&◌, ◌||◌, List, [], ◌∷◌, ltb, if◌then◌else◌, None, Option, Some}
 use Rattle.time.specs.declared.Time.{Time}
 use Rattle.i2c.specs.declared.types.Edge.{Edge}
 use Rattle.i2c.specs.declared.types.Edge.TheVariants.{Still, Start, Stop, Rise, Fall}
@@ -82,12 +82,12 @@ is_reset WriteKind.Durations = false
 is_reset WriteKind.Plain = false
 
 -- what the engine asks for is the write of a soft reset, as the registers of the sensor are
-unfoldable pub resets : Sensor → Action → Bool
-resets s A.Nothing = false
-resets s A.Drop = false
-resets s (A.Write r v) = is_reset (write_kind s r v)
-resets s (A.Launch r) = false
-resets s (A.ReadBegan r) = false
+unfoldable pub resets : Sensor → Option Action → Bool
+resets s None = false
+resets s (Some A.Drop) = false
+resets s (Some (A.Write r v)) = is_reset (write_kind s r v)
+resets s (Some (A.Launch r)) = false
+resets s (Some (A.ReadBegan r)) = false
 
 -- a timed call ends hearing; a report by what the engine asks for, of the sensor with the sample of its moment
 unfoldable pub timed_ends : Sensor → (now : Time) → Timed → Bool

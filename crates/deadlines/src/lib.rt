@@ -7,7 +7,7 @@ ghost use Rattle.deadlines.specs.Deadlines as D;
 use time::{Duration, Time};
 
 // What the sensor waits for, apart from its next sample and a stored write: for each the moment at which it is due, or none.
-#[derive(Clone, Copy, PartialEq, Eq)]
+#[derive(Clone, Copy, Default, PartialEq, Eq)]
 pub struct Deadlines {
     pub serial_ready: Option<Time>,
     pub wake: Option<Time>,
@@ -17,7 +17,7 @@ pub struct Deadlines {
     pub image: Option<Time>,
 }
 
-// Which of them.
+// Which of them. `with` gives a copy with one set anew, inside an expression; where the record is `mut` its field is set.
 #[derive(Clone, Copy, PartialEq, Eq)]
 pub enum Wait {
     SerialReady,
@@ -33,7 +33,7 @@ pub enum Wait {
 pub fn is_at(deadline: Option<Time>, now: Time) -> bool
     ensures { result ≡ D.is_at deadline now }
 {
-    deadline.is_some_and(|t| t == now)
+    deadline == Some(now)
 }
 
 // Whether it is at this moment or before it.
@@ -57,11 +57,11 @@ pub fn sooner(one: Option<Time>, other: Option<Time>) -> Option<Time>
 }
 
 // None where it is at this moment, else itself.
-#[tactic(auto, unfolding(crate::specs::Deadlines::unless_at))]
+#[tactic(auto, unfolding(crate::specs::Deadlines::unless_at, crate::specs::Deadlines::is_at))]
 pub fn unless_at(deadline: Option<Time>, now: Time) -> Option<Time>
     ensures { result ≡ D.unless_at deadline now }
 {
-    if is_at(deadline, now) { None } else { deadline }
+    deadline.filter(|t| *t != now)
 }
 
 // Later by a length, where it is set.
@@ -77,14 +77,7 @@ impl Deadlines {
     pub fn never() -> Deadlines
         ensures { result ≡ D.never }
     {
-        Deadlines {
-            serial_ready: None,
-            wake: None,
-            pause: None,
-            quiet: None,
-            irq_hold: None,
-            image: None,
-        }
+        Deadlines::default()
     }
 
     // One of them is set anew.

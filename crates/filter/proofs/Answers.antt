@@ -7,6 +7,7 @@ use Prim.Native.Nat.{ℕ, ◌+◌, ◌%◌, ◌^◌, ◌≤◌, min}
 use native.Mathlib.Omega.{arith}
 use lib.Dec.{ltb, eqb, lit≤}
 use borrow.Author.Tests.{ltb-true, ltb-false, eq-eqb, eqb-true, eqb-false}
+use Rattle.std.proofs.lemmas.Bool.{true≢false, false≢true}
 use lib.IntN.{ℤ, pos}
 use lib.ListN.{length, take, replicate}
 use lib.Seq.{take-take, take-append-le}
@@ -89,9 +90,6 @@ answers_as_said bandwidth earlier axis code =
 
 -- ---- whether the answer is a mean
 
-differ : ◌≡◌ {A = Bool} false true → ⊥
-differ e = let z : ◌≡◌ {A = ℕ} 0 1 = cc in omega arith
-
 -- the window is full exactly where the answer is the mean of the last window codes; else the answer is the code itself
 module _ (f : Filter) (axis : ℕ) (code : ℤ) where
   pub mean_where_full : full f axis ≡ true → answered f axis code ≡ mean (window f) (last_codes (pushed f axis code) axis)
@@ -99,7 +97,7 @@ module _ (f : Filter) (axis : ℕ) (code : ℤ) where
   mean_where_full e = go (ltb (count_with f axis) (window f)) refl e
     where
       go : (t : Bool) → ltb (count_with f axis) (window f) ≡ t → not t ≡ true → answered f axis code ≡ mean (window f) (last_codes (pushed f axis code) axis)
-      go true p q = absurd (differ q)
+      go true p q = absurd (false≢true q)
       go false p q = answered_mean f axis code (ltb-false (count_with f axis) (window f) p)
 
   pub code_where_not : full f axis ≡ false → answered f axis code ≡ code
@@ -108,7 +106,7 @@ module _ (f : Filter) (axis : ℕ) (code : ℤ) where
     where
       go : (t : Bool) → ltb (count_with f axis) (window f) ≡ t → not t ≡ false → answered f axis code ≡ code
       go true p q = answered_code f axis code (ltb-true (count_with f axis) (window f) p)
-      go false p q = absurd (differ (sym q))
+      go false p q = absurd (true≢false q)
 
 fullness : (f : Filter) (axis : ℕ) (code : ℤ) (codes : List ℤ) → Holds f axis codes
     → (t : Bool) → ltb (length (code ∷ codes)) (window f) ≡ t → full f axis ≡ not t

@@ -21,7 +21,7 @@ pub struct Filter {
     shift: u8,
 }
 
-// `full` says that the answer is the mean of a full window, else it is the code itself.
+// A filter after a code, and its answer: `full` says that it is the mean of a full window, else it is the code itself.
 #[derive(Clone, Copy)]
 pub struct Pushed {
     pub filter: Filter,
@@ -55,7 +55,7 @@ impl Ring {
     }
 }
 
-// The sum of some codes.
+// The sum of some codes. `codes.iter().map(..).sum()` was tried: that the sum fits, which the contract of `sum` asks, did not close.
 #[tactic(auto, unfolding(crate::specs::Mean::sumZ))]
 fn sum_of(codes: &[i16]) -> i32
     requires { length codes.now ≤ 64 }
@@ -68,8 +68,8 @@ fn sum_of(codes: &[i16]) -> i32
     total
 }
 
-// 01 keeps the history flat, so a ring is a place in it. The sum of the last `window` codes of the ring from `base` on, whose newest stands at `at`: those at and below it,
-// and the others from the ring's end.
+// The sum of the last `window` codes of the ring from `base` on, whose newest stands at `at`: those at and below it, and the others
+// from the ring's end. A ring is a place of the flat history, as 01 and the definition `ring` have it.
 fn window_sum(history: &[i16; 192], base: usize, at: usize, window: usize) -> i32
     requires { (base ≤ 128) × (at < 64) × (1 ≤ window) × (window ≤ 64) }
     ensures { (result ≡ sumZ (take window (ring history.now base at))) × (mag result < window * 32768) }
@@ -122,8 +122,8 @@ impl Filter {
         self.history
     }
 
-    // A code comes on an axis: the filter after it, and what it answers. The axis is a number, taken modulo 3: a type of three values would
-    // ask more of callers.
+    // A code comes on an axis: the filter after it, and what it answers. 01 takes the filter by value; `take_code` below is the same where
+    // the filter is kept. The axis is a number, taken modulo 3: a type of three values would ask more of callers.
     pub fn push(mut self, axis: u8, code: i16) -> Pushed
         ensures filter_value { result.filter ≡ pushed self axis code }
         ensures code_value { result.code ≡ answered self axis code }

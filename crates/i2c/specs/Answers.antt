@@ -1,5 +1,5 @@
 -- What the bus sees of the sensor in each part of a transfer, event by event.
-use Rattle.std.specs.Prelude.{ℕ, ◌+◌, ◌%◌, Bool, true, false, not, List, [], ◌∷◌, ◌++◌, drop, replicate}
+use Rattle.std.specs.Prelude.{ℕ, ◌+◌, ◌%◌, Bool, true, false, not, List, [], ◌∷◌, ◌++◌, drop, replicate, Option, Some, None}
 use Rattle.laws.specs.Notation.{Byte}
 use Rattle.laws.specs.Bytes.{sent_bit}
 use Rattle.i2c.specs.declared.types.Edge.{Edge}
@@ -10,16 +10,16 @@ use Rattle.i2c.specs.Transfers.{Pair, Levels8}
 use Rattle.i2c.specs.Target.{Seen, now_shown}
 
 -- the data line free, and this done
-abbrev pub free_and : Action → Seen
+abbrev pub free_and : Option Action → Seen
 free_and a = record { low = false; deed = a }
 
 -- the data line free, and nothing done
 abbrev pub free : Seen
-free = free_and A.Nothing
+free = free_and None
 
 -- the data line held low, and nothing done
 abbrev pub held : Seen
-held = record { low = true; deed = A.Nothing }
+held = record { low = true; deed = None }
 
 -- UM10204 3.1.6: held low from the eighth fall to the ninth
 abbrev pub acknowledge : List Seen
@@ -29,7 +29,7 @@ acknowledge = held ∷ held ∷ free ∷ []
 unfoldable pub silent : Edge → Seen
 silent Still = free
 silent Start = free
-silent Stop = free_and A.Drop
+silent Stop = free_and (Some A.Drop)
 silent (Rise d) = free
 silent Fall = free
 
@@ -40,7 +40,7 @@ silence (e ∷ es) = silent e ∷ silence es
 
 -- START drops what was going on; then eight bits of an address
 abbrev pub address_answer : List Seen
-address_answer = free_and A.Drop ∷ free ∷ replicate 15 free
+address_answer = free_and (Some A.Drop) ∷ free ∷ replicate 15 free
 
 -- bits of a byte that is not complete: nothing is seen, and nothing is done
 unfoldable pub frees : List Bool → List Seen
@@ -49,7 +49,7 @@ frees (d ∷ ds) = free ∷ free ∷ frees ds
 
 -- a byte broken off by STOP
 abbrev pub broken_answer : List Bool → List Seen
-broken_answer ds = frees ds ++ (free ∷ free_and A.Drop ∷ [])
+broken_answer ds = frees ds ++ (free ∷ free_and (Some A.Drop) ∷ [])
 
 -- a register byte: nothing is done
 abbrev pub register_answer : List Seen
@@ -57,7 +57,7 @@ register_answer = replicate 15 free ++ acknowledge
 
 -- a value byte: the write is at its eighth rise
 abbrev pub value_answer : (register value : ℕ) → List Seen
-value_answer register value = replicate 14 free ++ (free_and (A.Write register value) ∷ acknowledge)
+value_answer register value = replicate 14 free ++ (free_and (Some (A.Write register value)) ∷ acknowledge)
 
 -- each pair writes once, at the register modulo 128
 unfoldable pub pairs_answer : List Pair → List Seen
@@ -74,16 +74,16 @@ abbrev pub write_answer : List Pair → List Seen
 write_answer ps = (address_answer ++ acknowledge) ++ pairs_answer ps
 
 -- the pin at the n-th bit of a byte: low for a 0
-abbrev pub shows_bit : Byte → (n : ℕ) → Action → Seen
+abbrev pub shows_bit : Byte → (n : ℕ) → Option Action → Seen
 shows_bit b n a = record { low = not (sent_bit b n); deed = a }
 
 -- a byte read: fetched at the fall before its first bit, each bit from the fall before its clock to the fall after it, most significant first (UM10204 3.1.5); the read is noted at the first rise; free for the master's answer
 abbrev pub byte_answer : (register : ℕ) → Byte → List Seen
 byte_answer p b =
-    shows_bit b 0 (A.Launch p) ∷ shows_bit b 0 (A.ReadBegan p)
-    ∷ shows_bit b 1 A.Nothing ∷ shows_bit b 1 A.Nothing ∷ shows_bit b 2 A.Nothing ∷ shows_bit b 2 A.Nothing ∷ shows_bit b 3 A.Nothing ∷ shows_bit b 3 A.Nothing
-    ∷ shows_bit b 4 A.Nothing ∷ shows_bit b 4 A.Nothing ∷ shows_bit b 5 A.Nothing ∷ shows_bit b 5 A.Nothing ∷ shows_bit b 6 A.Nothing ∷ shows_bit b 6 A.Nothing
-    ∷ shows_bit b 7 A.Nothing ∷ shows_bit b 7 A.Nothing ∷ free ∷ free ∷ []
+    shows_bit b 0 (Some (A.Launch p)) ∷ shows_bit b 0 (Some (A.ReadBegan p))
+    ∷ shows_bit b 1 None ∷ shows_bit b 1 None ∷ shows_bit b 2 None ∷ shows_bit b 2 None ∷ shows_bit b 3 None ∷ shows_bit b 3 None
+    ∷ shows_bit b 4 None ∷ shows_bit b 4 None ∷ shows_bit b 5 None ∷ shows_bit b 5 None ∷ shows_bit b 6 None ∷ shows_bit b 6 None
+    ∷ shows_bit b 7 None ∷ shows_bit b 7 None ∷ free ∷ free ∷ []
 
 -- the next register follows, modulo 128
 abbrev pub next_register : ℕ → ℕ

@@ -1,5 +1,5 @@
 -- What a sensor that hears the bus does at each event, with what its registers show at that event.
-use Rattle.std.specs.Prelude.{ℕ, Bool, false, List, [], ◌∷◌, get_or, drop}
+use Rattle.std.specs.Prelude.{ℕ, Bool, false, List, [], ◌∷◌, get_or, drop, Option, Some, None}
 use Rattle.laws.specs.Notation.{Byte}
 use Rattle.i2c.specs.declared.types.Edge.{Edge}
 use Rattle.i2c.specs.declared.types.State.{State}
@@ -17,15 +17,15 @@ abbrev pub target : State → (sent : Byte) → Target
 target s sent = record { state = s; sent = sent }
 
 -- what the engine asked for is done: `shows` is the byte that a register shows at this event
-unfoldable pub act : (shows : ℕ → ℕ) → State → (sent : Byte) → Action → Target
-act shows s sent A.Nothing = target s sent
-act shows s sent A.Drop = target s 0xff
-act shows s sent (A.Write r x) = target (written s false) sent
-act shows s sent (A.Launch r) = target (launched s (shows r)) (shows r)
-act shows s sent (A.ReadBegan r) = target s sent
+unfoldable pub act : (shows : ℕ → ℕ) → State → (sent : Byte) → Option Action → Target
+act shows s sent None = target s sent
+act shows s sent (Some A.Drop) = target s 0xff
+act shows s sent (Some (A.Write r x)) = target (written s false) sent
+act shows s sent (Some (A.Launch r)) = target (launched s (shows r)) (shows r)
+act shows s sent (Some (A.ReadBegan r)) = target s sent
 
 -- what the sensor does at an event
-abbrev pub deed : Target → Edge → Action
+abbrev pub deed : Target → Edge → Option Action
 deed v e = (step v.state e false v.sent).action
 
 -- the sensor after an event: the engine's step, and what it asked for done
@@ -35,7 +35,7 @@ serve shows v e = act shows (step v.state e false v.sent).state v.sent (deed v e
 -- what is seen of it at an event: whether it holds the data line low from then on, and what it does
 pub record Seen : Type 0 where
   pub low : Bool
-  pub deed : Action
+  pub deed : Option Action
 
 -- at one event
 abbrev pub seen_at : (shows : ℕ → ℕ) → Target → Edge → Seen

@@ -1,9 +1,10 @@
-// What a report of the two lines is.
+// What a report of the two lines is. `before` and `after` go apart, as in the call that reports them.
 ghost use Rattle.std.specs.Prelude.{◌≡◌};
 ghost use Rattle.i2c.specs.Bus as B;
 
 use crate::types::{Edge, Levels};
 
+// The data line moves while the clock is high.
 #[tactic(auto, unfolding(crate::specs::Bus::data_moves))]
 fn data_moves(before: Levels, after: Levels) -> bool
     ensures { result ≡ B.data_moves before after }
@@ -27,6 +28,7 @@ pub fn edge(before: Levels, after: Levels) -> Edge
 }
 
 impl Edge {
+    // START or STOP.
     #[tactic(auto, unfolding(crate::specs::Bus::is_condition))]
     pub fn is_condition(self) -> bool
         ensures { result ≡ B.is_condition self }
@@ -34,13 +36,15 @@ impl Edge {
         matches!(self, Edge::Start | Edge::Stop)
     }
 
+    // The condition that begins a transfer.
     #[tactic(auto, unfolding(crate::specs::Bus::is_start))]
     pub fn is_start(self) -> bool
         ensures { result ≡ B.is_start self }
     {
-        matches!(self, Edge::Start)
+        self == Edge::Start
     }
 
+    // The clock rises.
     #[tactic(auto, unfolding(crate::specs::Bus::is_rise))]
     pub fn is_rise(self) -> bool
         ensures { result ≡ B.is_rise self }
@@ -48,11 +52,12 @@ impl Edge {
         matches!(self, Edge::Rise(_))
     }
 
+    // The clock falls.
     #[tactic(auto, unfolding(crate::specs::Bus::is_fall))]
     pub fn is_fall(self) -> bool
         ensures { result ≡ B.is_fall self }
     {
-        matches!(self, Edge::Fall)
+        self == Edge::Fall
     }
 
     // The data level at a rise.
@@ -60,6 +65,6 @@ impl Edge {
     pub fn data_at(self) -> bool
         ensures { result ≡ B.data_at self }
     {
-        matches!(self, Edge::Rise(true))
+        self == Edge::Rise(true)
     }
 }

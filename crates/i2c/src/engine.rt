@@ -1,5 +1,6 @@
-// One report of the lines, in the order of UM10204: START and STOP, byte, acknowledge, address, data.
-ghost use Rattle.std.specs.Prelude.{◌≡◌, true, not, ◌&&◌, ◌<◌};
+// One report of the lines, in the order of UM10204: START and STOP, byte, acknowledge, address, data. A test says whether a step
+// applies, and the step matches the phase again: the definitions ask in this order of UM10204's parts, not by phase.
+ghost use Rattle.std.specs.Prelude.{◌≡◌, true, not, ◌&&◌, ◌<◌, Some, None};
 ghost use Rattle.i2c.specs.Bus as B;
 ghost use Rattle.i2c.specs.Engine as E;
 
@@ -14,6 +15,7 @@ fn clocks(e: Edge) -> bool
     e.is_rise() || e.is_fall()
 }
 
+// The edge belongs to a bit within a byte.
 #[tactic(auto, unfolding(crate::specs::Engine::within_byte))]
 fn within_byte(phase: Phase, bits: u8, e: Edge) -> bool
     ensures { result ≡ E.within_byte phase bits e }
@@ -25,6 +27,7 @@ fn within_byte(phase: Phase, bits: u8, e: Edge) -> bool
     }
 }
 
+// The edge belongs to the ninth clock, the eighth fall included.
 #[tactic(auto, unfolding(crate::specs::Engine::at_ninth))]
 fn at_ninth(phase: Phase, e: Edge) -> bool
     ensures { result ≡ E.at_ninth phase e }
@@ -36,6 +39,7 @@ fn at_ninth(phase: Phase, e: Edge) -> bool
     }
 }
 
+// The edge is the eighth rise of a byte that is received.
 #[tactic(auto, unfolding(crate::specs::Engine::completes))]
 fn completes(phase: Phase, e: Edge) -> bool
     ensures { result ≡ E.completes phase e }
@@ -75,6 +79,7 @@ fn answer(sda: bool) -> Answer
     }
 }
 
+// A rise that completes a value byte, or takes the first bit of a byte being sent, uses converted values.
 #[tactic(auto, unfolding(crate::specs::Engine::uses_as, crate::specs::Engine::uses_at_rise))]
 fn uses_at_rise(phase: Phase, bits: u8) -> bool
     ensures { result ≡ E.uses_at_rise phase bits }
@@ -86,6 +91,7 @@ fn uses_at_rise(phase: Phase, bits: u8) -> bool
     }
 }
 
+// So does a fall at which the byte to send is fetched.
 #[tactic(auto, unfolding(crate::specs::Engine::reads_next, crate::specs::Engine::goes_on, crate::specs::Engine::uses_at_fall))]
 fn uses_at_fall(phase: Phase) -> bool
     ensures { result ≡ E.uses_at_fall phase }
@@ -94,6 +100,18 @@ fn uses_at_fall(phase: Phase) -> bool
         phase,
         Phase::Acknowledge(Following::Read, 2) | Phase::MasterAcknowledge(Answer::Acknowledge)
     )
+}
+
+// A state alone: the sensor has nothing to do.
+impl From<State> for Step {
+    ghost from_gives = { λ s t. t ≡ E.and_do s None };
+
+    fn from(state: State) -> Step {
+        Step {
+            state,
+            action: None,
+        }
+    }
 }
 
 impl State {
@@ -120,27 +138,31 @@ impl State {
         }
     }
 
+    // A state, and what the sensor has to do.
     fn and_do(self, action: Action) -> Step
-        ensures { result ≡ E.and_do self action }
+        ensures { result ≡ E.and_do self (Some action) }
     {
         Step {
             state: self,
-            action,
+            action: Some(action),
         }
     }
 
+    // The state in another phase.
     fn with_phase(self, phase: Phase) -> State
         ensures { result ≡ E.with_phase self phase }
     {
         State { phase, ..self }
     }
 
+    // The state in another phase, with the data line held low or free.
     fn with_low(self, phase: Phase, low: bool) -> State
         ensures { result ≡ E.with_low self phase low }
     {
         State { phase, low, ..self }
     }
 
+    // START or STOP: what was going on is dropped, and after START an address is received, unless quiet.
     #[tactic(auto, unfolding(crate::specs::Engine::conditioned))]
     fn conditioned(self, e: Edge, quiet: bool) -> Step
         ensures { result ≡ E.conditioned self e quiet }
@@ -163,7 +185,7 @@ impl State {
             shift: shifted_in(self.shift, e.data_at()),
             ..self
         };
-        state.and_do(Action::Nothing)
+        state.into()
     }
 
     // The master takes bit n of the byte being sent.
@@ -177,11 +199,10 @@ impl State {
             pointer: pointer_after(self.pointer, n),
             ..self
         };
-        state.and_do(if n == 0 {
-            Action::ReadBegan(self.pointer)
-        } else {
-            Action::Nothing
-        })
+        if n == 0 {
+            return state.and_do(Action::ReadBegan(self.pointer));
+        }
+        state.into()
     }
 
     // The pin shows bit n of the byte being sent.
@@ -192,9 +213,10 @@ impl State {
             low: !sent_bit(sent, n),
             ..self
         };
-        state.and_do(Action::Nothing)
+        state.into()
     }
 
+    // An edge within a byte: a bit is received, or the pin shows one and the master takes it.
     #[tactic(auto, unfolding(crate::specs::Engine::within_byte, crate::specs::Engine::byte_step))]
     fn byte_step(self, e: Edge, sent: u8) -> Step
         requires { E.within_byte self.phase self.bits e ≡ true }
@@ -204,7 +226,7 @@ impl State {
             Phase::Receive(_) => self.bit_received(e),
             Phase::Read(n) if e.is_rise() => self.bit_taken(n),
             Phase::Read(n) => self.bit_shown(n, sent),
-            _ => self.and_do(Action::Nothing),
+            _ => self.into(),
         }
     }
 
@@ -213,30 +235,27 @@ impl State {
     fn followed(self, f: Following) -> Step
         ensures { result ≡ E.followed self f }
     {
-        let (phase, action) = match f {
-            Following::Control => (Phase::Receive(Receive::Control), Action::Nothing),
-            Following::Data => (Phase::Receive(Receive::Data), Action::Nothing),
-            Following::Read => (self.phase, Action::Launch(self.pointer)),
-            Following::Idle => (Phase::Idle, Action::Nothing),
-        };
-        self.with_low(phase, false).and_do(action)
+        let freed = State { low: false, ..self };
+        match f {
+            Following::Control => freed.with_phase(Phase::Receive(Receive::Control)).into(),
+            Following::Data => freed.with_phase(Phase::Receive(Receive::Data)).into(),
+            Following::Read => freed.and_do(Action::Launch(self.pointer)),
+            Following::Idle => freed.with_phase(Phase::Idle).into(),
+        }
     }
 
+    // An edge of the ninth clock where the sensor acknowledges: low from the eighth fall to the ninth.
     #[tactic(auto, unfolding(crate::specs::Engine::acknowledge_step))]
     fn acknowledge_step(self, f: Following, n: u8, e: Edge) -> Step
         ensures { result ≡ E.acknowledge_step self f n e }
     {
         if e.is_rise() {
-            return self
-                .with_phase(Phase::Acknowledge(f, 2))
-                .and_do(Action::Nothing);
+            return self.with_phase(Phase::Acknowledge(f, 2)).into();
         }
         match n {
-            0 => self
-                .with_low(Phase::Acknowledge(f, 1), true)
-                .and_do(Action::Nothing),
+            0 => self.with_low(Phase::Acknowledge(f, 1), true).into(),
             2 => self.followed(f),
-            _ => self.and_do(Action::Nothing),
+            _ => self.into(),
         }
     }
 
@@ -246,23 +265,25 @@ impl State {
         ensures { result ≡ E.answered self a }
     {
         match a {
-            Answer::Unseen => self.and_do(Action::Nothing),
+            Answer::Unseen => self.into(),
             Answer::Acknowledge => self.and_do(Action::Launch(self.pointer)),
-            Answer::NotAcknowledge => self.abort().and_do(Action::Nothing),
+            Answer::NotAcknowledge => self.abort().into(),
         }
     }
 
+    // An edge of the ninth clock where the master answers, with the data level at its rise.
     #[tactic(auto, unfolding(crate::specs::Engine::answer_step))]
     fn answer_step(self, a: Answer, e: Edge) -> Step
         ensures { result ≡ E.answer_step self a e }
     {
         if e.is_rise() {
             let phase = Phase::MasterAcknowledge(answer(e.data_at()));
-            return self.with_phase(phase).and_do(Action::Nothing);
+            return self.with_phase(phase).into();
         }
         self.answered(a)
     }
 
+    // An edge of the ninth clock.
     #[tactic(auto, unfolding(crate::specs::Engine::ninth_step))]
     fn ninth_step(self, e: Edge) -> Step
         ensures { result ≡ E.ninth_step self.phase self e }
@@ -271,9 +292,9 @@ impl State {
             Phase::Acknowledge(f, n) => self.acknowledge_step(f, n, e),
             Phase::Read(_) => self
                 .with_low(Phase::MasterAcknowledge(Answer::Unseen), false)
-                .and_do(Action::Nothing),
+                .into(),
             Phase::MasterAcknowledge(a) => self.answer_step(a, e),
-            _ => self.and_do(Action::Nothing),
+            _ => self.into(),
         }
     }
 
@@ -284,6 +305,7 @@ impl State {
         self.abort().with_phase(Phase::Acknowledge(f, 0))
     }
 
+    // An address byte: 70 to write, 71 to read, and silence after any other.
     #[tactic(auto, unfolding(crate::specs::Engine::addressed))]
     fn addressed(self, byte: u8) -> Step
         ensures { result ≡ E.addressed self byte }
@@ -293,7 +315,7 @@ impl State {
             0x71 => self.acknowledging_with(Following::Read),
             _ => self.abort(),
         };
-        state.and_do(Action::Nothing)
+        state.into()
     }
 
     // A register byte sets the pointer.
@@ -304,9 +326,10 @@ impl State {
             pointer: byte % 128,
             ..self.acknowledging_with(Following::Data)
         };
-        state.and_do(Action::Nothing)
+        state.into()
     }
 
+    // A byte was received.
     #[tactic(auto, unfolding(crate::specs::Engine::received))]
     fn received(self, k: Receive, byte: u8) -> Step
         ensures { result ≡ E.received k self byte }
@@ -318,13 +341,14 @@ impl State {
         }
     }
 
+    // The eighth rise completes a byte.
     #[tactic(auto, unfolding(crate::specs::Engine::completed))]
     fn completed(self, e: Edge) -> Step
         ensures { result ≡ E.completed self.phase self e }
     {
         match self.phase {
             Phase::Receive(k) => self.received(k, shifted_in(self.shift, e.data_at())),
-            _ => self.and_do(Action::Nothing),
+            _ => self.into(),
         }
     }
 
@@ -336,7 +360,7 @@ impl State {
         if e.is_condition() {
             self.conditioned(e, quiet)
         } else if silenced(quiet, self.phase) {
-            self.abort().and_do(Action::Nothing)
+            self.abort().into()
         } else if within_byte(self.phase, self.bits, e) {
             self.byte_step(e, sent)
         } else if at_ninth(self.phase, e) {
@@ -344,11 +368,12 @@ impl State {
         } else if completes(self.phase, e) {
             self.completed(e)
         } else {
-            self.and_do(Action::Nothing)
+            self.into()
         }
     }
 
-    // One report of the lines. `sent` is the byte being sent, ff where `peek` withholds it.
+    // One report of the lines, as 01 has the call; `stepped` is for a caller that has the event. `sent` is the byte being sent, ff where
+    // `peek` withholds it.
     pub fn step(self, before: Levels, after: Levels, quiet: bool, sent: u8) -> Step
         ensures { result ≡ E.step self (B.edge before after) quiet sent }
     {
@@ -386,6 +411,7 @@ impl State {
         }
     }
 
+    // The same of a report, as 01 has the call.
     pub fn consumes_conversion(self, before: Levels, after: Levels) -> bool
         ensures { result ≡ E.consumes_conversion self (B.edge before after) }
     {

@@ -1,4 +1,5 @@
-// The types of the I2C engine. Names are the Rust's (bma150/i2c.rs), but for what it writes as an `Option` or an array.
+// The types of the I2C engine. `Receive`, `Following`, `Phase` and `State` have the Rust's names (bma150/i2c.rs); the others stand for
+// its arrays, its `Option<bool>`, its tests of the lines and its calls of the sensor.
 
 // The two lines, true where high: the clock (the part's SCK) and the data (its SDI).
 #[derive(Clone, Copy, Debug, PartialEq, Eq)]
@@ -8,6 +9,7 @@ pub struct Levels {
 }
 
 // What a report of the lines is to UM10204: the two conditions, the clock's edges, or no event. A rise has the data level.
+// `Still` is a case and no `Option`: a list of what the bus does holds it like the others, also for a call that is no report.
 #[derive(Clone, Copy, Debug, PartialEq, Eq)]
 pub enum Edge {
     Still,
@@ -54,6 +56,7 @@ pub enum Phase {
     MasterAcknowledge(Answer),
 }
 
+// The phase, the register pointer, the bits of the byte being received and their number, and whether the data line is held low.
 #[derive(Clone, Copy, Debug, PartialEq, Eq)]
 pub struct State {
     pub phase: Phase,
@@ -63,19 +66,18 @@ pub struct State {
     pub low: bool,
 }
 
-// Nothing is a case: an engine that does nothing still answers a step. What the sensor has to do: nothing, drop the byte being sent, write a register, fetch and send a register's byte, note
-// that a register's byte is being read.
+// What the sensor has to do: drop the byte being sent, write a register, fetch and send a register's byte, note that a register's byte is being read.
 #[derive(Clone, Copy, Debug, PartialEq, Eq)]
 pub enum Action {
-    Nothing,
     Drop,
     Write(u8, u8),
     Launch(u8),
     ReadBegan(u8),
 }
 
+// What a report leaves the engine in, and what the sensor has to do, if anything.
 #[derive(Clone, Copy, Debug, PartialEq, Eq)]
 pub struct Step {
     pub state: State,
-    pub action: Action,
+    pub action: Option<Action>,
 }

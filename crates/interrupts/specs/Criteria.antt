@@ -1,6 +1,16 @@
 -- The high-g and low-g criteria: a threshold with hysteresis on each axis, and the time that it has held. `high` tells high-g from low-g, and so does the number h of a state's type: 1 high-g, 0 low-g.
 use Rattle.std.specs.Prelude.{ℕ, ◌+◌, ◌-◌, ◌*◌, Bool, true, false, not, ◌&&◌, ◌||◌, List, leb, ltb, eqb, get_or, set, replicate, ℤ, nat_abs, if◌then◌else◌}
+use Rattle.laws.specs.Notation.{Byte, Registers}
+use Rattle.registers.specs.Map.{at, criteria, enable_HG, enable_LG, counter_HG, counter_LG}
 use Rattle.interrupts.specs.declared.threshold.Threshold.{Threshold}
+
+-- the data sheet's enable_HG or enable_LG
+abbrev pub enabled : (high : Bool) (byte : Byte) → Bool
+enabled high byte = if high then enable_HG byte else enable_LG byte
+
+-- the data sheet's counter_HG or counter_LG
+abbrev pub mode : (high : Bool) (byte : Byte) → ℕ
+mode high byte = if high then counter_HG byte else counter_LG byte
 
 -- 01: high-g sets an axis at |code| × 255 ≥ threshold × 512; low-g mirrors this
 unfoldable pub sets : (high : Bool) (code : ℤ) (threshold : ℕ) → Bool
@@ -65,6 +75,10 @@ tick t high enabled duration mode = (
   },
   fired t high enabled duration,
 )
+
+-- the same with the criterion's bits of the registers, and its duration as it is now
+abbrev pub ticked : {h : ℕ} → Threshold h → (high : Bool) (registers : Registers) → Threshold h × Bool
+ticked t high registers = tick t high (enabled high (at registers criteria)) t.duration (mode high (at registers criteria))
 
 -- acquisition starts anew: level and latch stay (the Rust's `restart_acquisition`)
 abbrev pub restarted : {h : ℕ} → Threshold h → Threshold h

@@ -26,7 +26,7 @@ motion_output s registers =
     enable_adv_INT (at registers operation)
     && any_motion (at registers criteria)
     && not (alert (at registers criteria))
-    && shown (latch_INT (at registers operation)) s.motion_latched s.motion_level
+    && shown (latch_INT (at registers operation)) s.motion.latched s.motion.level
 
 -- an enabled criterion shows its latch or its level
 unfoldable pub threshold_output : {h : ℕ} → Threshold h → (enabled latch : Bool) → Bool
@@ -48,7 +48,7 @@ unfoldable pub verifying_motion : Interrupts → (registers : Registers) → Boo
 verifying_motion s registers =
     enable_adv_INT (at registers operation)
     && enables_motion (at registers criteria)
-    && (ltb s.observations 4 || s.motion_active)
+    && (ltb s.observations 4 || s.motion.active)
 
 -- an enabled criterion that is met
 unfoldable pub candidate : {h : ℕ} → Threshold h → (high enabled : Bool) → Bool

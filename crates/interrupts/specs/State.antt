@@ -1,8 +1,9 @@
 -- The interrupt state and its steps, under the names of the Rust's functions.
-use Rattle.std.specs.Prelude.{ℕ, ◌+◌, ◌-◌, ◌*◌, ◌%◌, min, Bool, true, false, not, ◌&&◌, ◌||◌, List, [], ◌∷◌, leb, ltb, eqb, get_or, set, replicate, ℤ, pos, nat_abs, ◌-ℤ◌, if◌then◌else◌}
+use Rattle.std.specs.Prelude.{ℕ, ◌+◌, ◌-◌, ◌*◌, ◌%◌, min, Bool, true, false, not, ◌&&◌, ◌||◌, List, [], leb, ltb, eqb, get_or, set, replicate, ℤ, pos, nat_abs, ◌-ℤ◌, if◌then◌else◌}
 use Rattle.laws.specs.Notation.{Registers}
 use Rattle.registers.specs.Map.{at, criteria, LG_thres, LG_dur, HG_thres, HG_dur, any_motion_thres, hysteresis, operation, alert, any_motion, enable_HG, enable_LG, counter_HG, counter_LG, any_motion_dur, HG_hyst, LG_hyst, enable_adv_INT}
 use Rattle.interrupts.specs.declared.threshold.Threshold.{Threshold}
+use Rattle.interrupts.specs.declared.motion.Motion.{Motion}
 use Rattle.interrupts.specs.declared.Interrupts.{Interrupts}
 use Rattle.interrupts.specs.Criteria.{observe, tick, restarted, cleared}
 
@@ -18,17 +19,17 @@ with_history s history cursor observations divider = record s { history = histor
 
 -- s with other counts and flags of motion
 abbrev pub with_motion : Interrupts → (set clear : ℕ) (active level latched : Bool) → Interrupts
-with_motion s set clear active level latched = record s { motion_set = set; motion_clear = clear; motion_active = active; motion_level = level; motion_latched = latched }
+with_motion s set clear active level latched = record s { motion = record { set = set; clear = clear; active = active; level = level; latched = latched } }
 
--- s with another alert and other working durations
-abbrev pub with_alert : Interrupts → (alert : Bool) (durations : List ℕ) → Interrupts
-with_alert s alert durations = record s { alert = alert; durations = durations }
+-- s with another alert and other working durations, that of low-g and that of high-g
+abbrev pub with_alert : Interrupts → (alert : Bool) (low high : ℕ) → Interrupts
+with_alert s alert low high = record s { alert = alert; low_g = record s.low_g { duration = low }; high_g = record s.high_g { duration = high } }
 
 -- ---- start, configuration, reset
 
 -- a threshold of a new sensor
 abbrev pub idle : {h : ℕ} → Threshold h
-idle = record { axes = replicate 3 false; count = 0; level = false; latched = false }
+idle = record { axes = replicate 3 false; count = 0; level = false; latched = false; duration = 0 }
 
 -- 01: defaults are all zero or false
 abbrev pub new : Interrupts
@@ -39,36 +40,31 @@ new = record {
   cursor = 0;
   observations = 0;
   divider = 0;
-  motion_set = 0;
-  motion_clear = 0;
-  motion_active = false;
-  motion_level = false;
-  motion_latched = false;
+  motion = record { set = 0; clear = 0; active = false; level = false; latched = false };
   alert = false;
-  durations = replicate 2 0;
 }
 
--- LG_dur and HG_dur, the durations of low-g and high-g
-abbrev pub durations_of : (registers : Registers) → List ℕ
-durations_of registers = at registers LG_dur ∷ at registers HG_dur ∷ []
+-- s with another alert, and with LG_dur and HG_dur as the durations of low-g and high-g
+abbrev pub with_durations : Interrupts → (alert : Bool) (registers : Registers) → Interrupts
+with_durations s alert registers = with_alert s alert (at registers LG_dur) (at registers HG_dur)
 
 -- under alert the working durations are kept (the Rust's rule)
 unfoldable pub configure : Interrupts → (registers : Registers) → Interrupts
-configure s registers = if s.alert then s else with_alert s s.alert (durations_of registers)
+configure s registers = if s.alert then s else with_durations s s.alert registers
 
 -- acquisition starts anew: history, levels and latches stay (the Rust's rule)
 unfoldable pub restart_acquisition : Interrupts → Interrupts
 restart_acquisition s =
     with_motion
     (with_history (with_thresholds s (restarted s.low_g) (restarted s.high_g)) s.history s.cursor 0 0)
-    0 0 false s.motion_level s.motion_latched
+    0 0 false s.motion.level s.motion.latched
 
 -- reset_INT: counts, levels, latches and the alert are cleared; axes and history stay (the Rust's rule)
 unfoldable pub reset : Interrupts → (registers : Registers) → Interrupts
 reset s registers =
-    with_alert
-    (with_motion (with_thresholds s (cleared s.low_g) (cleared s.high_g)) 0 0 s.motion_active false false)
-    false (durations_of registers)
+    with_durations
+    (with_motion (with_thresholds s (cleared s.low_g) (cleared s.high_g)) 0 0 s.motion.active false false)
+    false registers
 
 -- ---- a code on an axis
 
@@ -104,12 +100,28 @@ moves earlier codes threshold =
 abbrev pub record_codes : Interrupts → (codes : List ℤ) → Interrupts
 record_codes s codes = with_history s (set s.history (place s) codes) ((s.cursor % 3 + 1) % 3) (min 4 (s.observations + 1)) 0
 
+-- motion where acquisition starts anew (the Rust's rule)
+abbrev pub motion_restarted : Motion → Motion
+motion_restarted m = record m { set = 0; clear = 0; active = false }
+
+-- motion after reset_INT (the Rust's rule)
+abbrev pub motion_cleared : Motion → Motion
+motion_cleared m = record m { set = 0; clear = 0; level = false; latched = false }
+
 -- how many in a row have moved, and how many have not, to 255
+unfoldable pub motion_counted : Motion → (active : Bool) → Motion
+motion_counted m active = record m {
+  set = if active then min 255 (m.set + 1) else 0;
+  clear = if active then 0 else min 255 (m.clear + 1);
+  active = active;
+}
+
+-- the same of the whole state
 unfoldable pub count_motion : Interrupts → (active : Bool) → Interrupts
 count_motion s active =
     with_motion s
-    (if active then min 255 (s.motion_set + 1) else 0) (if active then 0 else min 255 (s.motion_clear + 1))
-    active s.motion_level s.motion_latched
+    (if active then min 255 (s.motion.set + 1) else 0) (if active then 0 else min 255 (s.motion.clear + 1))
+    active s.motion.level s.motion.latched
 
 -- 01: motion needs so many in a row; enable_adv_INT lets it through
 unfoldable pub qualifies : (set need : ℕ) (registers : Registers) → Bool
@@ -127,10 +139,10 @@ detects set need registers = qualifies set need registers && not (alert (at regi
 unfoldable pub decide : Interrupts → (need : ℕ) (registers : Registers) → Interrupts
 decide s need registers =
     with_alert
-    (with_motion s s.motion_set s.motion_clear s.motion_active
-    (detects s.motion_set need registers || (not (leb need s.motion_clear) && s.motion_level))
-    (detects s.motion_set need registers || s.motion_latched))
-    (alerts s.motion_set need registers || s.alert) s.durations
+    (with_motion s s.motion.set s.motion.clear s.motion.active
+    (detects s.motion.set need registers || (not (leb need s.motion.clear) && s.motion.level))
+    (detects s.motion.set need registers || s.motion.latched))
+    (alerts s.motion.set need registers || s.alert) s.low_g.duration s.high_g.duration
 
 -- an observation is compared only from the fourth on
 unfoldable pub observation : Interrupts → (codes : List ℤ) (registers : Registers) (need : ℕ) → Interrupts
@@ -150,15 +162,15 @@ cycle s codes window registers needs =
 
 -- under alert both durations fall by one, to 0 (the Rust's rule)
 unfoldable pub shorten : Interrupts → Interrupts
-shorten s = if s.alert then with_alert s s.alert ((get_or s.durations 0 0 - 1) ∷ (get_or s.durations 1 0 - 1) ∷ []) else s
+shorten s = if s.alert then with_alert s s.alert (s.low_g.duration - 1) (s.high_g.duration - 1) else s
 
 -- low-g counts: enable_LG, LG_dur as it is now, counter_LG
 abbrev pub tick_low : Interrupts → (registers : Registers) → Threshold 0 × Bool
-tick_low s registers = tick s.low_g false (enable_LG (at registers criteria)) (get_or s.durations 0 0) (counter_LG (at registers criteria))
+tick_low s registers = tick s.low_g false (enable_LG (at registers criteria)) s.low_g.duration (counter_LG (at registers criteria))
 
 -- high-g counts: enable_HG, HG_dur as it is now, counter_HG
 abbrev pub tick_high : Interrupts → (registers : Registers) → Threshold 1 × Bool
-tick_high s registers = tick s.high_g true (enable_HG (at registers criteria)) (get_or s.durations 1 0) (counter_HG (at registers criteria))
+tick_high s registers = tick s.high_g true (enable_HG (at registers criteria)) s.high_g.duration (counter_HG (at registers criteria))
 
 -- both criteria count
 abbrev pub ticked : Interrupts → (registers : Registers) → Interrupts
@@ -166,13 +178,13 @@ ticked s registers = with_thresholds s (tick_low s registers).0 (tick_high s reg
 
 -- the alert is over: its durations have fallen to 0 (the Rust's rule)
 unfoldable pub lapsed : Interrupts → Bool
-lapsed s = s.alert && eqb (get_or s.durations 0 0) 0 && eqb (get_or s.durations 1 0) 0
+lapsed s = s.alert && eqb s.low_g.duration 0 && eqb s.high_g.duration 0
 
 -- a criterion that fires, or an alert that is over, ends the alert and sets the durations anew
 unfoldable pub ended : Interrupts → (registers : Registers) → Interrupts
 ended s registers =
     if (tick_low s registers).1 || (tick_high s registers).1 || lapsed s
-    then with_alert (ticked s registers) false (durations_of registers)
+    then with_durations (ticked s registers) false registers
     else ticked s registers
 
 -- a millisecond passes

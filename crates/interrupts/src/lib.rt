@@ -2,16 +2,18 @@
 #![tactic(auto)]
 
 mod alert;
-mod motion;
+pub mod motion;
 mod pin;
 pub mod threshold;
 
 ghost use Rattle.std.specs.Prelude.{◌≡◌};
 ghost use Rattle.interrupts.specs.State.{new, configure, restart_acquisition, reset, axis};
 
+use crate::motion::Motion;
 use crate::threshold::{HighG, LowG};
 use registers::fields::{HG_DUR, HG_THRES, HYSTERESIS, LG_DUR, LG_THRES, hg_hyst, lg_hyst};
 
+// The two criteria, the last three observations with the place of the next, what any motion has come to, and the alert.
 #[derive(Clone, Copy, Debug, Default, PartialEq, Eq)]
 pub struct Interrupts {
     pub low_g: LowG,
@@ -20,13 +22,8 @@ pub struct Interrupts {
     pub cursor: u8,
     pub observations: u8,
     pub divider: u8,
-    pub motion_set: u8,
-    pub motion_clear: u8,
-    pub motion_active: bool,
-    pub motion_level: bool,
-    pub motion_latched: bool,
+    pub motion: Motion,
     pub alert: bool,
-    pub durations: [u8; 2],
 }
 
 impl Interrupts {
@@ -39,16 +36,15 @@ impl Interrupts {
 
     // LG_dur and HG_dur become the working durations, but under alert.
     #[tactic(auto, unfolding(crate::specs::State::configure))]
-    pub fn configure(self, registers: [u8; 62]) -> Interrupts
+    pub fn configure(mut self, registers: [u8; 62]) -> Interrupts
         ensures { result ≡ configure self registers }
     {
         if self.alert {
             return self;
         }
-        Interrupts {
-            durations: [registers[LG_DUR], registers[HG_DUR]],
-            ..self
-        }
+        self.low_g.duration = registers[LG_DUR];
+        self.high_g.duration = registers[HG_DUR];
+        self
     }
 
     // Acquisition starts anew.
@@ -61,14 +57,12 @@ impl Interrupts {
             high_g: self.high_g.restarted(),
             observations: 0,
             divider: 0,
-            motion_set: 0,
-            motion_clear: 0,
-            motion_active: false,
+            motion: self.motion.restarted(),
             ..self
         }
     }
 
-    // reset_INT.
+    // reset_INT: counts, levels, latches and the alert are cleared.
     #[tactic(auto, unfolding(crate::specs::State::configure, crate::specs::State::reset))]
     pub fn reset(self, registers: [u8; 62]) -> Interrupts
         ensures { result ≡ reset self registers }
@@ -76,10 +70,7 @@ impl Interrupts {
         let cleared = Interrupts {
             low_g: self.low_g.cleared(),
             high_g: self.high_g.cleared(),
-            motion_set: 0,
-            motion_clear: 0,
-            motion_level: false,
-            motion_latched: false,
+            motion: self.motion.cleared(),
             alert: false,
             ..self
         };

@@ -1,12 +1,22 @@
 // Any motion: an observation is compared with the one three earlier.
 ghost use Rattle.std.specs.Prelude.{◌≡◌};
-ghost use Rattle.interrupts.specs.State.{moved, moves, record_codes, count_motion, qualifies, alerts, detects, decide, observation, cycle};
+ghost use Rattle.interrupts.specs.State.{moved, moves, record_codes, motion_counted, motion_restarted, motion_cleared, count_motion, qualifies, alerts, detects, decide, observation, cycle};
 
 use crate::Interrupts;
 use registers::fields::{
     ALERT, ANY_MOTION, ANY_MOTION_THRES, CRITERIA, ENABLE_ADV_INT, HYSTERESIS, OPERATION,
     any_motion_dur, has,
 };
+
+// How many observations in a row have moved, and how many have not; whether the last one has; and what shows of it.
+#[derive(Clone, Copy, Debug, Default, PartialEq, Eq)]
+pub struct Motion {
+    pub set: u8,
+    pub clear: u8,
+    pub active: bool,
+    pub level: bool,
+    pub latched: bool,
+}
 
 // A code differs enough from an earlier one.
 #[tactic(auto, unfolding(crate::specs::State::moved))]
@@ -27,30 +37,71 @@ fn moves(earlier: [i16; 3], codes: [i16; 3], threshold: u8) -> bool
         .any(|(new, old)| moved(*new, *old, threshold))
 }
 
-// Enough observations in a row have moved, and enable_adv_INT is set. `set`, `need` and the registers go from here to the two tests
-// below and no further: a record of them would be made only to be taken apart.
-#[tactic(auto, unfolding(crate::specs::State::qualifies))]
-fn qualifies(set: u8, need: u8, registers: [u8; 62]) -> bool
-    ensures { result ≡ qualifies set need registers }
-{
-    need <= set && has(registers[OPERATION], ENABLE_ADV_INT)
-}
+impl Motion {
+    // Enough observations in a row have moved, and enable_adv_INT is set.
+    #[tactic(auto, unfolding(crate::specs::State::qualifies))]
+    fn qualifies(self, need: u8, registers: [u8; 62]) -> bool
+        ensures { result ≡ qualifies self.set need registers }
+    {
+        need <= self.set && has(registers[OPERATION], ENABLE_ADV_INT)
+    }
 
-// Motion begins the alert.
-#[tactic(auto, unfolding(crate::specs::State::alerts))]
-fn alerts(set: u8, need: u8, registers: [u8; 62]) -> bool
-    ensures { result ≡ alerts set need registers }
-{
-    qualifies(set, need, registers) && has(registers[CRITERIA], ALERT)
-}
+    // Motion begins the alert.
+    #[tactic(auto, unfolding(crate::specs::State::alerts))]
+    fn alerts(self, need: u8, registers: [u8; 62]) -> bool
+        ensures { result ≡ alerts self.set need registers }
+    {
+        self.qualifies(need, registers) && has(registers[CRITERIA], ALERT)
+    }
 
-// Motion is an interrupt of its own.
-#[tactic(auto, unfolding(crate::specs::State::detects))]
-fn detects(set: u8, need: u8, registers: [u8; 62]) -> bool
-    ensures { result ≡ detects set need registers }
-{
-    let criteria = registers[CRITERIA];
-    qualifies(set, need, registers) && !has(criteria, ALERT) && has(criteria, ANY_MOTION)
+    // Motion is an interrupt of its own.
+    #[tactic(auto, unfolding(crate::specs::State::detects))]
+    fn detects(self, need: u8, registers: [u8; 62]) -> bool
+        ensures { result ≡ detects self.set need registers }
+    {
+        let criteria = registers[CRITERIA];
+        self.qualifies(need, registers) && !has(criteria, ALERT) && has(criteria, ANY_MOTION)
+    }
+
+    // An observation has moved, or has not.
+    #[tactic(auto, unfolding(crate::specs::State::motion_counted))]
+    fn counted(self, active: bool) -> Motion
+        ensures { result ≡ motion_counted self active }
+    {
+        let (set, clear) = if active {
+            (self.set.saturating_add(1), 0)
+        } else {
+            (0, self.clear.saturating_add(1))
+        };
+        Motion {
+            set,
+            clear,
+            active,
+            ..self
+        }
+    }
+
+    // Acquisition starts anew: level and latch stay.
+    pub(crate) fn restarted(self) -> Motion
+        ensures { result ≡ motion_restarted self }
+    {
+        Motion {
+            set: 0,
+            clear: 0,
+            active: false,
+            ..self
+        }
+    }
+
+    // reset_INT: whether the last observation moved stays.
+    pub(crate) fn cleared(self) -> Motion
+        ensures { result ≡ motion_cleared self }
+    {
+        Motion {
+            active: self.active,
+            ..Motion::default()
+        }
+    }
 }
 
 impl Interrupts {
@@ -69,19 +120,12 @@ impl Interrupts {
     }
 
     // How many in a row have moved, or have not.
-    #[tactic(auto, unfolding(crate::specs::State::count_motion))]
+    #[tactic(auto, unfolding(crate::specs::State::motion_counted, crate::specs::State::count_motion))]
     fn count_motion(self, active: bool) -> Interrupts
         ensures { result ≡ count_motion self active }
     {
-        let (motion_set, motion_clear) = if active {
-            (self.motion_set.saturating_add(1), 0)
-        } else {
-            (0, self.motion_clear.saturating_add(1))
-        };
         Interrupts {
-            motion_set,
-            motion_clear,
-            motion_active: active,
+            motion: self.motion.counted(active),
             ..self
         }
     }
@@ -91,11 +135,15 @@ impl Interrupts {
     fn decide(self, need: u8, registers: [u8; 62]) -> Interrupts
         ensures { result ≡ decide self need registers }
     {
-        let motion = detects(self.motion_set, need, registers);
+        let motion = self.motion;
+        let detected = motion.detects(need, registers);
         Interrupts {
-            motion_level: motion || self.motion_clear < need && self.motion_level,
-            motion_latched: motion || self.motion_latched,
-            alert: alerts(self.motion_set, need, registers) || self.alert,
+            motion: Motion {
+                level: detected || motion.clear < need && motion.level,
+                latched: detected || motion.latched,
+                ..motion
+            },
+            alert: motion.alerts(need, registers) || self.alert,
             ..self
         }
     }

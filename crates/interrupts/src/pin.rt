@@ -1,12 +1,11 @@
 // What the interrupt state shows.
 ghost use Rattle.std.specs.Prelude.{◌≡◌};
+ghost use Rattle.interrupts.specs.Criteria.{enabled};
 ghost use Rattle.interrupts.specs.Pin.{status, shown, motion_output, threshold_output, output, enables_motion, candidate, verifying_motion, verifying};
 
 use crate::Interrupts;
 use crate::threshold::Threshold;
-use registers::fields::{
-    ALERT, ANY_MOTION, CRITERIA, ENABLE_ADV_INT, ENABLE_HG, ENABLE_LG, LATCH_INT, OPERATION, has,
-};
+use registers::fields::{ALERT, ANY_MOTION, CRITERIA, ENABLE_ADV_INT, LATCH_INT, OPERATION, has};
 
 // The latch or the level.
 fn shown(latch: bool, latched: bool, level: bool) -> bool
@@ -26,18 +25,18 @@ fn enables_motion(criteria: u8) -> bool
 impl<const HIGH: bool> Threshold<HIGH> {
     // An enabled criterion shows its level or its latch.
     #[tactic(auto, unfolding(crate::specs::Pin::threshold_output))]
-    fn output(self, enabled: bool, latch: bool) -> bool
-        ensures { result ≡ threshold_output self.entry enabled latch }
+    fn output(self, criteria: u8, latch: bool) -> bool
+        ensures { result ≡ threshold_output self.entry (enabled HIGH criteria) latch }
     {
-        enabled && shown(latch, self.latched, self.level)
+        Self::enabled(criteria) && shown(latch, self.latched, self.level)
     }
 
     // An enabled criterion is met.
     #[tactic(auto, unfolding(crate::specs::Pin::candidate))]
-    fn candidate(self, enabled: bool) -> bool
-        ensures { result ≡ candidate self.entry HIGH enabled }
+    fn candidate(self, criteria: u8) -> bool
+        ensures { result ≡ candidate self.entry HIGH (enabled HIGH criteria) }
     {
-        enabled && self.active()
+        Self::enabled(criteria) && self.active()
     }
 }
 
@@ -65,20 +64,20 @@ impl Interrupts {
             && !has(criteria, ALERT)
             && shown(
                 has(operation, LATCH_INT),
-                self.motion_latched,
-                self.motion_level,
+                self.motion.latched,
+                self.motion.level,
             )
     }
 
-    // The interrupt.
+    // The interrupt pin.
     #[tactic(auto, unfolding(crate::specs::Pin::output))]
     pub fn output(self, registers: [u8; 62]) -> bool
         ensures { result ≡ output self registers }
     {
         let criteria = registers[CRITERIA];
         let latch = has(registers[OPERATION], LATCH_INT);
-        self.low_g.output(has(criteria, ENABLE_LG), latch)
-            || self.high_g.output(has(criteria, ENABLE_HG), latch)
+        self.low_g.output(criteria, latch)
+            || self.high_g.output(criteria, latch)
             || self.motion_output(registers)
     }
 
@@ -89,7 +88,7 @@ impl Interrupts {
     {
         has(registers[OPERATION], ENABLE_ADV_INT)
             && enables_motion(registers[CRITERIA])
-            && (self.observations < 4 || self.motion_active)
+            && (self.observations < 4 || self.motion.active)
     }
 
     // A candidate is being verified, which keeps the sensor awake.
@@ -98,8 +97,8 @@ impl Interrupts {
         ensures { result ≡ verifying self registers }
     {
         let criteria = registers[CRITERIA];
-        self.low_g.candidate(has(criteria, ENABLE_LG))
-            || self.high_g.candidate(has(criteria, ENABLE_HG))
+        self.low_g.candidate(criteria)
+            || self.high_g.candidate(criteria)
             || self.verifying_motion(registers)
             || self.alert
     }

@@ -1,14 +1,17 @@
 // One criterion, high-g or low-g.
 ghost use Rattle.std.specs.Prelude.{◌≡◌, ◌%◌};
-ghost use Rattle.interrupts.specs.Criteria.{sets, clears, raised, active, observe, fires, counted, tick, restarted, cleared};
+ghost use Rattle.interrupts.specs.Criteria.{enabled, mode, raised, active, observe, fires, counted, ticked, restarted, cleared};
 
-// The state of a criterion, high-g if HIGH and else low-g.
+use registers::fields::{CRITERIA, ENABLE_HG, ENABLE_LG, counter_hg, counter_lg, has};
+
+// The state of a criterion, high-g if HIGH and else low-g, with its working duration, which the alert shortens.
 #[derive(Clone, Copy, Debug, Default, PartialEq, Eq)]
 pub struct Threshold<const HIGH: bool> {
     pub axes: [bool; 3],
     pub count: u16,
     pub level: bool,
     pub latched: bool,
+    pub duration: u8,
 }
 
 pub type LowG = Threshold<false>;
@@ -38,34 +41,38 @@ fn counted(enabled: bool, met: bool, count: u16, duration: u8, mode: u8) -> u16
 }
 
 impl<const HIGH: bool> Threshold<HIGH> {
-    // A code sets its axis.
-    #[tactic(auto, unfolding(crate::specs::Criteria::sets))]
-    fn sets(code: i16, threshold: u8) -> bool
-        ensures { result ≡ sets HIGH code threshold }
+    // Whether the criterion is enabled.
+    pub(crate) fn enabled(criteria: u8) -> bool
+        ensures { result ≡ enabled HIGH criteria }
     {
-        let m = u32::from(code.unsigned_abs()) * 255;
-        let t = u32::from(threshold) * 512;
-        if HIGH { t <= m } else { m <= t }
+        has(criteria, if HIGH { ENABLE_HG } else { ENABLE_LG })
     }
 
-    // A code clears its axis. The threshold and the hysteresis come from two registers and meet only here, so a record of them would be
-    // made in `Interrupts::axis` only to be taken apart.
-    #[tactic(auto, unfolding(crate::specs::Criteria::clears))]
-    fn clears(code: i16, threshold: u8, hysteresis: u8) -> bool
-        ensures { result ≡ clears HIGH code threshold hysteresis }
+    // By how much its count falls.
+    fn mode(criteria: u8) -> u8
+        ensures { result ≡ mode HIGH criteria }
+    {
+        if HIGH {
+            counter_hg(criteria)
+        } else {
+            counter_lg(criteria)
+        }
+    }
+
+    // An axis after a code: what neither sets nor clears it leaves it.
+    #[tactic(auto, unfolding(crate::specs::Criteria::sets, crate::specs::Criteria::clears, crate::specs::Criteria::raised))]
+    fn raised(code: i16, threshold: u8, hysteresis: u8, old: bool) -> bool
+        ensures { result ≡ raised HIGH code threshold hysteresis old }
     {
         let m = u32::from(code.unsigned_abs()) * 255;
         let t = u32::from(threshold) * 512;
         let h = u32::from(hysteresis) * 16384;
-        if HIGH { m + h < t } else { t + h < m }
-    }
-
-    // An axis after a code.
-    #[tactic(auto, unfolding(crate::specs::Criteria::raised))]
-    fn raised(code: i16, threshold: u8, hysteresis: u8, old: bool) -> bool
-        ensures { result ≡ raised HIGH code threshold hysteresis old }
-    {
-        Self::sets(code, threshold) || !Self::clears(code, threshold, hysteresis) && old
+        let (sets, clears) = if HIGH {
+            (t <= m, m + h < t)
+        } else {
+            (m <= t, t + h < m)
+        };
+        sets || !clears && old
     }
 
     // High-g needs one axis, low-g all.
@@ -73,11 +80,14 @@ impl<const HIGH: bool> Threshold<HIGH> {
     pub(crate) fn active(self) -> bool
         ensures { result ≡ active HIGH self.entry.axes }
     {
-        let [x, y, z] = self.axes;
-        if HIGH { x || y || z } else { x && y && z }
+        if HIGH {
+            self.axes.iter().any(|met| *met)
+        } else {
+            self.axes.iter().all(|met| *met)
+        }
     }
 
-    // Acquisition starts anew.
+    // Acquisition starts anew: level and latch stay.
     pub(crate) fn restarted(self) -> Self
         ensures { result ≡ restarted self.entry }
     {
@@ -88,7 +98,7 @@ impl<const HIGH: bool> Threshold<HIGH> {
         }
     }
 
-    // reset_INT.
+    // reset_INT: the axes stay.
     pub(crate) fn cleared(self) -> Self
         ensures { result ≡ cleared self.entry }
     {
@@ -112,13 +122,21 @@ impl<const HIGH: bool> Threshold<HIGH> {
     }
 
     // A millisecond, and whether it fired.
-    pub(crate) fn tick(self, enabled: bool, duration: u8, mode: u8) -> (Self, bool)
-        ensures { result ≡ tick self.entry HIGH enabled duration mode }
+    pub(crate) fn tick(self, registers: [u8; 62]) -> (Self, bool)
+        ensures { result ≡ ticked self.entry HIGH registers }
     {
+        let criteria = registers[CRITERIA];
+        let enabled = Self::enabled(criteria);
         let met = self.active();
-        let fired = fires(enabled, met, self.count, duration);
+        let fired = fires(enabled, met, self.count, self.duration);
         let threshold = Threshold {
-            count: counted(enabled, met, self.count, duration, mode),
+            count: counted(
+                enabled,
+                met,
+                self.count,
+                self.duration,
+                Self::mode(criteria),
+            ),
             level: enabled && (fired || self.level),
             latched: fired || self.latched,
             ..self

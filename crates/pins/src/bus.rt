@@ -37,13 +37,13 @@ impl Sensor {
         self
     }
 
-    fn acted(self, action: Action) -> Sensor {
+    fn acted(self, action: Option<Action>) -> Sensor {
         match action {
-            Action::Nothing => self,
-            Action::Drop => self.dropped(),
-            Action::Write(a, v) => self.i2c_written(a, v),
-            Action::Launch(a) => self.launched(a),
-            Action::ReadBegan(a) => self.noted(a),
+            None => self,
+            Some(Action::Drop) => self.dropped(),
+            Some(Action::Write(a, v)) => self.i2c_written(a, v),
+            Some(Action::Launch(a)) => self.launched(a),
+            Some(Action::ReadBegan(a)) => self.noted(a),
         }
     }
 

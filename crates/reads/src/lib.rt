@@ -1,11 +1,14 @@
 // Reads of the acceleration registers: a pair of bytes held from the low byte to the high byte (bma150.rs).
 #![tactic(auto)]
 
-ghost use Rattle.std.specs.Prelude.{◌≡◌, ◌<◌};
+ghost use Rattle.std.specs.Prelude.{◌≡◌, ◌<◌, get_or};
 ghost use Rattle.reads.specs.Reads as R;
 
+use registers::fields::NEW_DATA;
+
 // What the reads keep: the held pair of each axis, the last high byte of each, the pair that a low byte is being sent from, and
-// whether what is being sent comes from a pair.
+// whether what is being sent comes from a pair. The Rust's four: a high byte of a pair is sent without one, so that `tx_pair` does
+// not say it, and `release`, `forget` and `drop` each clear a part that the others leave.
 #[derive(Clone, Copy, Debug, PartialEq, Eq)]
 pub struct Reads {
     pub shadows: [Option<[u8; 2]>; 3],
@@ -21,7 +24,7 @@ pub struct Prepared {
     pub byte: u8,
 }
 
-// Whether an address is that of an acceleration.
+// Whether an address is that of an acceleration: from ACC_LSB on, which `registers` has as an index.
 #[tactic(auto, unfolding(crate::specs::Reads::is_acceleration))]
 pub fn is_acceleration(address: u8) -> bool
     ensures { result ≡ R.is_acceleration address }
@@ -48,7 +51,7 @@ fn is_shadowed(address: u8, shadowing: bool) -> bool
 pub fn without_new_data(byte: u8) -> u8
     ensures { result ≡ R.without_new_data byte }
 {
-    byte & !1
+    byte & !(1 << NEW_DATA)
 }
 
 impl Reads {
@@ -121,11 +124,11 @@ impl Reads {
         Prepared { reads, byte }
     }
 
-    // The byte to send for a register that shows `viewed`; `low` and `high` are the registers of the address's axis. A pair that is
+    // The byte to send for a register that shows `viewed`; `now` are the two registers of the address's axis. A pair that is
     // held for the axis comes before them, and a high byte without one is the last one of the axis.
     #[tactic(auto, unfolding(crate::specs::Reads::prepared, crate::specs::Reads::pair, crate::specs::Reads::high_byte), using(crate::specs::Theorems::Pairs::axis_lt))]
-    pub fn prepare(self, address: u8, viewed: u8, low: u8, high: u8, shadowing: bool) -> Prepared
-        ensures { result ≡ R.prepared self address viewed low high shadowing }
+    pub fn prepare(self, address: u8, viewed: u8, now: [u8; 2], shadowing: bool) -> Prepared
+        ensures { result ≡ R.prepared self address viewed (get_or now 0 0) (get_or now 1 0) shadowing }
     {
         let reads = self.drop();
         if !is_shadowed(address, shadowing) {
@@ -137,6 +140,7 @@ impl Reads {
         let axis = usize::from(axis_of(address));
         let held = self.shadows[axis];
         if address % 2 == 0 {
+            let [low, high] = now;
             return reads.prepare_low(held.unwrap_or([low, high]));
         }
         reads.prepare_high(match held {

@@ -1,4 +1,5 @@
-// Which writes are ignored, which begin a stored write, and which reads are withheld.
+// Which writes are ignored, which begin a stored write, and which reads are withheld. Addresses are the bytes that a bus sends, in
+// the data sheet's numbers: the constants of `fields` are indexes, and bounds of ranges have no names there.
 ghost use Rattle.std.specs.Prelude.{◌≡◌};
 ghost use Rattle.registers.specs.Access.{unwritable, working, stored, image_blocks, sleep_blocks, locked, ignores, begins, unreadable, withheld};
 
@@ -18,7 +19,7 @@ pub struct Gate {
 fn unwritable(address: u8) -> bool
     ensures { result ≡ unwritable address }
 {
-    address <= 0x09 || 0x3e <= address
+    !(0x0a..=0x3d).contains(&address)
 }
 
 // The working image, which a copy of the stored image overwrites.

@@ -2,6 +2,8 @@
 ghost use Rattle.std.specs.Prelude.{◌≡◌, ◌*◌, pos};
 ghost use Rattle.registers.specs.Codes.{offset, ten_bits, code_low, code_high, range_g, code, temperature};
 
+use crate::fields::NEW_DATA;
+
 // Millionths of g from which on a code is a limit, whatever the offset and the range: a million g.
 const FAR: i64 = 1_000_000_000_000;
 
@@ -23,7 +25,7 @@ fn ten_bits(code: i16) -> u16
 pub fn code_low(code: i16) -> u8
     ensures { result ≡ code_low code }
 {
-    ((ten_bits(code) & 3) as u8) << 6 | 1
+    ((ten_bits(code) & 3) as u8) << 6 | 1 << NEW_DATA
 }
 
 // The register of a code's bits 9..2.

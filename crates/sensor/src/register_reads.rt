@@ -79,8 +79,10 @@ impl Sensor {
         self.reads.prepare(
             address,
             viewed,
-            byte_at(self.registers, low),
-            byte_at(self.registers, low + 1),
+            [
+                byte_at(self.registers, low),
+                byte_at(self.registers, low + 1),
+            ],
             !has(self.registers[OPERATION], SHADOW_DIS),
         )
     }

@@ -41,12 +41,12 @@ launched f =
     with_i2c (with_frame f.sensor (F.sending f.sensor.frame f.sent)) (E.launched f.sensor.i2c (ones_for f.sent))
 
 -- what the engine asked for is done
-unfoldable pub acted : Action → Sensor → (now : Time) → Sensor
-acted Action.Nothing s now = s
-acted Action.Drop s now = byte_dropped s
-acted (Action.Write r v) s now = acknowledge_begun (write_register s r v now)
-acted (Action.Launch r) s now = launched (prepare_read s r)
-acted (Action.ReadBegan r) s now = read_began s r
+unfoldable pub acted : Option Action → Sensor → (now : Time) → Sensor
+acted None s now = s
+acted (Some Action.Drop) s now = byte_dropped s
+acted (Some (Action.Write r v)) s now = acknowledge_begun (write_register s r v now)
+acted (Some (Action.Launch r)) s now = launched (prepare_read s r)
+acted (Some (Action.ReadBegan r)) s now = read_began s r
 
 abbrev pub stepped : Step → Sensor → (now : Time) → Sensor
 stepped t s now = acted t.action (with_i2c s t.state) now

@@ -48,15 +48,15 @@ fn launched(f: Fetched) -> Sensor
 }
 
 #[tactic(auto, unfolding(crate::specs::I2cPins::acted))]
-fn acted(sensor: Sensor, action: Action, now: Time) -> Sensor
+fn acted(sensor: Sensor, action: Option<Action>, now: Time) -> Sensor
     ensures { result ≡ Z.acted action sensor now }
 {
     match action {
-        Action::Nothing => sensor,
-        Action::Drop => byte_dropped(sensor),
-        Action::Write(r, v) => acknowledge_begun(write_register(sensor, r, v, now)),
-        Action::Launch(r) => launched(sensor.prepare_read(r)),
-        Action::ReadBegan(r) => sensor.read_began(r),
+        None => sensor,
+        Some(Action::Drop) => byte_dropped(sensor),
+        Some(Action::Write(r, v)) => acknowledge_begun(write_register(sensor, r, v, now)),
+        Some(Action::Launch(r)) => launched(sensor.prepare_read(r)),
+        Some(Action::ReadBegan(r)) => sensor.read_began(r),
     }
 }
 

@@ -17,6 +17,7 @@ fn moves(at: Clocked, four_wire: bool, turnaround: bool) -> bool
     }
 }
 
+// The level of bit n of a byte.
 #[tactic(auto, unfolding(crate::specs::Frame::bit_drive))]
 fn drive(byte: u8, n: u8) -> Drive
     ensures { result ≡ F.bit_drive byte n }
@@ -34,9 +35,8 @@ fn level(tx: Option<u8>, selected: bool, n: u8) -> Drive
     ensures { result ≡ F.level tx selected n }
 {
     match tx {
-        None => Drive::Floating,
         Some(byte) if selected && n < 8 => drive(byte, n),
-        Some(_) => Drive::Floating,
+        _ => Drive::Floating,
     }
 }
 
@@ -115,6 +115,7 @@ impl Frame {
         self.serial.first_bit(self.rx_bits)
     }
 
+    // A bit within a byte is received.
     fn bit_taken(self, mosi: bool) -> Frame
         requires { self.rx_bits < 7 }
         ensures { result ≡ F.bit_taken self mosi }
@@ -126,6 +127,7 @@ impl Frame {
         }
     }
 
+    // A byte is received anew, of the frame's next part.
     fn next_byte(self, serial: Serial) -> Frame
         ensures { result ≡ F.next_byte self serial }
     {
@@ -137,6 +139,7 @@ impl Frame {
         }
     }
 
+    // The byte of register a is sent next.
     fn next_read(self, a: u8, turnaround: bool) -> Frame
         ensures { result ≡ F.next_read self a turnaround }
     {
@@ -148,6 +151,7 @@ impl Frame {
         }
     }
 
+    // The address byte is complete: its bit 7 tells a read from a write.
     #[tactic(auto, unfolding(crate::specs::Frame::addressed))]
     fn addressed(self, byte: u8, four_wire: bool) -> Frame
         ensures { result ≡ F.addressed self byte four_wire }
@@ -158,6 +162,8 @@ impl Frame {
         self.next_read(byte % 128, !four_wire)
     }
 
+    // A byte is complete. After a read the next register follows, modulo 128: one expression, as in `pointer_after` of I2C, which a
+    // function for both would only name.
     #[tactic(auto, unfolding(crate::specs::Frame::completed))]
     fn completed(self, byte: u8, four_wire: bool) -> Taken
         ensures { result ≡ F.completed self.serial self byte four_wire }
@@ -168,7 +174,7 @@ impl Frame {
                 write: None,
             },
             Serial::Read(a) => Taken {
-                frame: self.next_read((a % 128 + 1) % 128, self.turnaround),
+                frame: self.next_read(a.wrapping_add(1) % 128, self.turnaround),
                 write: None,
             },
             Serial::Write(a) => Taken {
@@ -213,27 +219,28 @@ impl Frame {
         }
     }
 
+    // The pin shows the next bit of the byte being sent.
     #[tactic(auto, unfolding(crate::specs::Frame::next_bit))]
     fn showing(self, tx: Option<u8>) -> Frame
         ensures { result ≡ F.showing self tx }
     {
         Frame {
             tx,
-            tx_bit: if self.tx_bit < 8 { self.tx_bit + 1 } else { 8 },
+            tx_bit: self.tx_bit.saturating_add(1).min(8),
             driven: level(tx, self.selected, self.tx_bit),
             ..self
         }
     }
 
     // The output moves on, with the byte now being sent.
-    #[tactic(auto, unfolding(crate::specs::Frame::moved))]
+    #[tactic(auto, unfolding(crate::specs::Frame::moved, crate::specs::Frame::reads))]
     pub fn shifted(self, tx: Option<u8>) -> Frame
         ensures { result ≡ F.shifted self tx }
     {
-        match self.serial {
-            Serial::Read(_) => self.showing(tx),
-            _ => self.released(),
+        if self.serial.reads() {
+            return self.showing(tx);
         }
+        self.released()
     }
 
     // The driver is released.

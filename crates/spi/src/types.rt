@@ -1,4 +1,5 @@
-// The types of the SPI frame. Names are the Rust's (devices/bma150.rs, signals.rs).
+// The types of the SPI frame. `Serial`, `Drive` and the fields of `Frame` have the Rust's names (devices/bma150.rs, signals.rs); the
+// Rust has no types for the others.
 
 // What the byte being received belongs to: an address byte, a read from a register on, a write to a register.
 #[derive(Clone, Copy, PartialEq, Eq)]
@@ -45,6 +46,7 @@ pub struct Taken {
 }
 
 // What the output does at an edge: stays, first fetches a register's byte, or goes on with the byte being sent.
+// `Stay` is a case and no `Option`: two functions match all three at once, and `Some` would name nothing.
 #[derive(Clone, Copy, PartialEq, Eq)]
 pub enum Shift {
     Stay,

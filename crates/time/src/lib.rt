@@ -136,7 +136,7 @@ fn edges_in(d: Duration) -> u64
     ensures { result ≡ min (2 ^ 64 - 1) ((12000 * T.lasts d - 1) / 2 ^ 64) }
 {
     let ticks = d.ticks().saturating_sub(1);
-    let part = ((ticks & LOW) * u128::from(RATE) + 11999) >> 64;
+    let part = ((ticks & LOW) * u128::from(RATE) + u128::from(RATE - 1)) >> 64;
     ((ticks >> 64) * u128::from(RATE) + part).min(LOW) as u64
 }
 

@@ -9,7 +9,6 @@ use Rattle.i2c.specs.declared.types.Edge.{Edge}
 use Rattle.i2c.specs.declared.types.Edge.TheVariants.{Still, Start, Stop, Rise, Fall}
 use Rattle.i2c.specs.declared.types.Phase.{Phase}
 use Rattle.i2c.specs.declared.types.Phase.TheVariants as P
-use Rattle.i2c.specs.declared.types.Action.TheVariants as A
 use Rattle.i2c.specs.Bus.{edge, is_condition, is_rise, is_fall}
 use Rattle.i2c.specs.Engine as E
 use Rattle.i2c.specs.Transfers.{byte_frame, address_frame, broken, starts, Pair, Bytes, write_transfer, Levels8, read_transfer, combined}
@@ -33,7 +32,7 @@ use Rattle.bus.specs.Theorems.Transfers.{write_through_calls, read_through_calls
 -- ---- one call
 
 -- a call that is no report asks the engine for nothing
-still_phase : (p : Phase) (n b x : ℕ) (l : Bool) (s : ℕ) → deed (target (record { phase = p; pointer = n; bits = b; shift = x; low = l }) s) Still ≡ A.Nothing
+still_phase : (p : Phase) (n b x : ℕ) (l : Bool) (s : ℕ) → deed (target (record { phase = p; pointer = n; bits = b; shift = x; low = l }) s) Still ≡ None
 unfolding E.step is_condition is_rise is_fall E.within_byte E.at_ninth E.completes
 still_phase P.Idle n b x l s = refl
 still_phase (P.Receive k) n b x l s = refl
@@ -41,7 +40,7 @@ still_phase (P.Acknowledge f m) n b x l s = refl
 still_phase (P.Read m) n b x l s = refl
 still_phase (P.MasterAcknowledge a) n b x l s = refl
 
-still_deed : (v : Target) → deed v Still ≡ A.Nothing
+still_deed : (v : Target) → deed v Still ≡ None
 still_deed v = still_phase v.state.phase v.state.pointer v.state.bits v.state.shift v.state.low v.sent
 
 module _ (s : Sensor) (h : Heard s) where

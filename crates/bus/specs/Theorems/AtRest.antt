@@ -178,13 +178,13 @@ unfolding fetched
 launched_alike None s r = record { selected = refl; serial = refl }
 launched_alike (Some b) s r = record { selected = refl; serial = refl }
 
-acted_alike : (a : Action) (s : Sensor) (now : Time) → Alike s.frame (acted a s now).frame
+acted_alike : (a : Option Action) (s : Sensor) (now : Time) → Alike s.frame (acted a s now).frame
 unfolding acted
-acted_alike A.Nothing s now = record { selected = refl; serial = refl }
-acted_alike A.Drop s now = record { selected = refl; serial = refl }
-acted_alike (A.Write r v) s now = and_alike (written_alike s r v now (write_kind s r v)) (record { selected = refl; serial = refl })
-acted_alike (A.Launch r) s now = launched_alike (peek s r) s r
-acted_alike (A.ReadBegan r) s now = kept (K.byte_read_keeps s.frame.tx s r)
+acted_alike None s now = record { selected = refl; serial = refl }
+acted_alike (Some A.Drop) s now = record { selected = refl; serial = refl }
+acted_alike (Some (A.Write r v)) s now = and_alike (written_alike s r v now (write_kind s r v)) (record { selected = refl; serial = refl })
+acted_alike (Some (A.Launch r)) s now = launched_alike (peek s r) s r
+acted_alike (Some (A.ReadBegan r)) s now = kept (K.byte_read_keeps s.frame.tx s r)
 
 pins_alike : (s : Sensor) (e : Edge) (now : Time) → Alike s.frame (i2c_pins s e now).frame
 unfolding i2c_pins

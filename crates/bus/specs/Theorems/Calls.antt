@@ -1,5 +1,5 @@
 -- Every accepted call of a sensor that hears the bus before and after, as the bus sees it.
-use Rattle.std.specs.Prelude.{ℕ, ◌≡◌, Bool, true, false, ltb, if◌then◌else◌}
+use Rattle.std.specs.Prelude.{ℕ, ◌≡◌, Bool, true, false, ltb, if◌then◌else◌, Option, Some, None}
 use Rattle.std.proofs.Math.Path.{refl, ap}
 use Rattle.std.proofs.Common.{sym, subst, ◌∙◌}
 use Rattle.time.specs.declared.Time.{Time}
@@ -83,12 +83,12 @@ module _ (s : Sensor) (e : Edge) (now : Time) (h : Heard s) where
   unfolding uses resets
   ending_same = by_deed (deed (target_of s) e)
     where
-      by_deed : (a : Action) → resets (sampled s now) a ≡ resets (if uses a then sampled s now else caught s now) a
-      by_deed A.Nothing = refl
-      by_deed A.Drop = refl
-      by_deed (A.Write r v) = refl
-      by_deed (A.Launch r) = refl
-      by_deed (A.ReadBegan r) = refl
+      by_deed : (a : Option Action) → resets (sampled s now) a ≡ resets (if uses a then sampled s now else caught s now) a
+      by_deed None = refl
+      by_deed (Some A.Drop) = refl
+      by_deed (Some (A.Write r v)) = refl
+      by_deed (Some (A.Launch r)) = refl
+      by_deed (Some (A.ReadBegan r)) = refl
 
   module _ (n : resets (sampled s now) (deed (target_of s) e) ≡ false) where
     pub report_target : target_of (i2c_pins (pins_synced (caught s now) e now) e now) ≡ serve (fetch (sampled s now)) (target_of s) e

@@ -88,19 +88,19 @@ module _ (s : Sensor) (st : State) where
   same_view r = refl
 
 -- what is done, but a soft reset, leaves the engine and the byte being sent as UM10204's target has them
-pub acted_target : (a : Action) (s : Sensor) (st : State) (now : Time) → Heard s → resets s a ≡ false
+pub acted_target : (a : Option Action) (s : Sensor) (st : State) (now : Time) → Heard s → resets s a ≡ false
     → target_of (acted a (with_i2c s st) now) ≡ act (fetch s) st (ones_for s.frame.tx) a
 unfolding acted act ones_for resets
-acted_target A.Nothing s st now h g = refl
-acted_target A.Drop s st now h g = refl
-acted_target (A.Write r v) s st now h g =
+acted_target None s st now h g = refl
+acted_target (Some A.Drop) s st now h g = refl
+acted_target (Some (A.Write r v)) s st now h g =
     let q = with_i2c s st in
     let same = written_same q r v now (write_kind q r v) g in
     ap (λ (k : Parts). target (E.written k.i2c (is_set k.quiet)) (ones_for k.frame.tx)) same.same
     ∙ ap (λ (z : Bool). target (E.written st z) (ones_for s.frame.tx)) (not_quiet h)
-acted_target (A.Launch r) s st now h g =
+acted_target (Some (A.Launch r)) s st now h g =
     ap (λ (v : Option ℕ). target_of (launched (fetched v (with_i2c s st) r))) (same_view s st r) ∙ launched_target s st (peek s r) r
-acted_target (A.ReadBegan r) s st now h g = same_target (of (K.byte_read_keeps s.frame.tx (with_i2c s st) r))
+acted_target (Some (A.ReadBegan r)) s st now h g = same_target (of (K.byte_read_keeps s.frame.tx (with_i2c s st) r))
 
 -- and the sensor goes on hearing
 module _ (s : Sensor) (st : State) (now : Time) (h : Heard s) where
@@ -112,28 +112,28 @@ module _ (s : Sensor) (st : State) (now : Time) (h : Heard s) where
   launched_heard None r = record { on = h.on; ready = h.ready; unselected = h.unselected; at_rest = h.at_rest; loud = h.loud }
   launched_heard (Some b) r = record { on = h.on; ready = h.ready; unselected = h.unselected; at_rest = h.at_rest; loud = h.loud }
 
-  pub acted_heard : (a : Action) → resets s a ≡ false → Heard (acted a q now)
+  pub acted_heard : (a : Option Action) → resets s a ≡ false → Heard (acted a q now)
   unfolding acted resets
-  acted_heard A.Nothing g = heard_engine s st h
-  acted_heard A.Drop g = record { on = h.on; ready = h.ready; unselected = h.unselected; at_rest = h.at_rest; loud = h.loud }
-  acted_heard (A.Write r v) g = heard_engine _ _ (heard (written_same q r v now (write_kind q r v) g) (heard_engine s st h))
-  acted_heard (A.Launch r) g = launched_heard (peek q r) r
-  acted_heard (A.ReadBegan r) g = heard (of (K.byte_read_keeps s.frame.tx q r)) (heard_engine s st h)
+  acted_heard None g = heard_engine s st h
+  acted_heard (Some A.Drop) g = record { on = h.on; ready = h.ready; unselected = h.unselected; at_rest = h.at_rest; loud = h.loud }
+  acted_heard (Some (A.Write r v)) g = heard_engine _ _ (heard (written_same q r v now (write_kind q r v) g) (heard_engine s st h))
+  acted_heard (Some (A.Launch r)) g = launched_heard (peek q r) r
+  acted_heard (Some (A.ReadBegan r)) g = heard (of (K.byte_read_keeps s.frame.tx q r)) (heard_engine s st h)
 
   -- after a soft reset it is quiet
-  pub acted_quiet : (a : Action) → resets s a ≡ true → is_quiet (acted a q now) ≡ true
+  pub acted_quiet : (a : Option Action) → resets s a ≡ true → is_quiet (acted a q now) ≡ true
   unfolding acted resets
-  acted_quiet A.Nothing g = absurd_bool (sym g)
-  acted_quiet A.Drop g = absurd_bool (sym g)
-  acted_quiet (A.Write r v) g = reset_quiets q r v now (write_kind q r v) g
-  acted_quiet (A.Launch r) g = absurd_bool (sym g)
-  acted_quiet (A.ReadBegan r) g = absurd_bool (sym g)
+  acted_quiet None g = absurd_bool (sym g)
+  acted_quiet (Some A.Drop) g = absurd_bool (sym g)
+  acted_quiet (Some (A.Write r v)) g = reset_quiets q r v now (write_kind q r v) g
+  acted_quiet (Some (A.Launch r)) g = absurd_bool (sym g)
+  acted_quiet (Some (A.ReadBegan r)) g = absurd_bool (sym g)
 
 -- only a fetch looks at the registers
-pub act_shows : (f g : ℕ → ℕ) (st : State) (sent : ℕ) (a : Action) → (uses a ≡ true → (r : ℕ) → f r ≡ g r) → act f st sent a ≡ act g st sent a
+pub act_shows : (f g : ℕ → ℕ) (st : State) (sent : ℕ) (a : Option Action) → (uses a ≡ true → (r : ℕ) → f r ≡ g r) → act f st sent a ≡ act g st sent a
 unfolding act uses
-act_shows f g st sent A.Nothing h = refl
-act_shows f g st sent A.Drop h = refl
-act_shows f g st sent (A.Write r x) h = refl
-act_shows f g st sent (A.Launch r) h = ap (λ (b : ℕ). target (E.launched st b) b) (h refl r)
-act_shows f g st sent (A.ReadBegan r) h = refl
+act_shows f g st sent None h = refl
+act_shows f g st sent (Some A.Drop) h = refl
+act_shows f g st sent (Some (A.Write r x)) h = refl
+act_shows f g st sent (Some (A.Launch r)) h = ap (λ (b : ℕ). target (E.launched st b) b) (h refl r)
+act_shows f g st sent (Some (A.ReadBegan r)) h = refl

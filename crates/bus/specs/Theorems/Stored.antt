@@ -1,6 +1,6 @@
 -- Stored writes over I2C: START, 70 hex, a register and seven bits of a value begin nothing; the eighth rise begins a stored write exactly where 01's rule holds.
 use Rattle.sensor.specs.Operation.{Operation, stored_write}
-use Rattle.std.specs.Prelude.{ℕ, ◌%◌, ◌<◌, ◌≡◌, Bool, true, false, List, [], ◌++◌, if◌then◌else◌, Some}
+use Rattle.std.specs.Prelude.{ℕ, ◌%◌, ◌<◌, ◌≡◌, Bool, true, false, List, [], ◌++◌, if◌then◌else◌, Some, Option}
 use Rattle.std.proofs.Math.Path.{refl, ap}
 use Rattle.std.proofs.Common.{◌∙◌, leb→le}
 use Rattle.laws.specs.Bytes.{sent_bit, all_shifted_in, seven_bits, bits_make_the_byte}
@@ -103,16 +103,16 @@ module _ (s : Bma150) (cs : List Call) (h : Heard s.sensor) (n : ended s cs ≡ 
     abbrev pub met : Sensor
     met = sampled (after s cs).sensor now
 
-    asks_write : deed (target_of (after s cs).sensor) (edge before next) ≡ A.Write (register % 128) value
+    asks_write : deed (target_of (after s cs).sensor) (edge before next) ≡ Some (A.Write (register % 128) value)
     unfolding E.step is_condition is_start is_rise is_fall data_at E.within_byte E.at_ninth E.completes E.completed E.received
     asks_write =
         ap (λ (f : Edge). deed (target_of (after s cs).sensor) f) last
         ∙ ap (λ (v : Target). deed v (Rise (sent_bit value 7))) reached.1
-        ∙ ap (λ (y : ℕ). A.Write (register % 128) y) (bits_make_the_byte value x)
+        ∙ ap (λ (y : ℕ). Some (A.Write (register % 128) y)) (bits_make_the_byte value x)
 
-    deed_met : (d : Action) → d ≡ A.Write (register % 128) value → (if uses d then met else sync_local_until (after s cs).sensor now false) ≡ met
+    deed_met : (d : Option Action) → d ≡ Some (A.Write (register % 128) value) → (if uses d then met else sync_local_until (after s cs).sensor now false) ≡ met
     unfolding uses
-    deed_met d q = ap (λ (d : Action). if uses d then met else sync_local_until (after s cs).sensor now false) q
+    deed_met d q = ap (λ (d : Option Action). if uses d then met else sync_local_until (after s cs).sensor now false) q
 
     hearing : Heard (after s cs).sensor
     hearing = stays_heard cs s h n
@@ -135,6 +135,6 @@ module _ (s : Bma150) (cs : List Call) (h : Heard s.sensor) (n : ended s cs ≡ 
         let f = edge before next in
         let st = stepped_to t f in
         ap (λ (u : Sensor). u.writing) (report_through_call (after s cs) now before next ok hearing)
-        ∙ ap (λ (d : Action). (acted d (with_i2c (meets t f now) st) now).writing) asks_write
-        ∙ ap (λ (u : Sensor). (acted (A.Write (register % 128) value) (with_i2c u st) now).writing) (deed_met (deed (target_of t) f) asks_write)
+        ∙ ap (λ (d : Option Action). (acted d (with_i2c (meets t f now) st) now).writing) asks_write
+        ∙ ap (λ (u : Sensor). (acted (Some (A.Write (register % 128) value)) (with_i2c u st) now).writing) (deed_met (deed (target_of t) f) asks_write)
         ∙ write_begins (with_i2c met st) (register % 128) value now

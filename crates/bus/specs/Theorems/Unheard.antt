@@ -1,5 +1,5 @@
 -- What the bus sees of a sensor that does not hear it: selected, off or dead, or quiet after a soft reset.
-use Rattle.std.specs.Prelude.{ℕ, ◌≡◌, Bool, cond, ◌&&◌, if◌then◌else◌}
+use Rattle.std.specs.Prelude.{ℕ, ◌≡◌, Bool, cond, ◌&&◌, if◌then◌else◌, Some, None}
 use Rattle.std.proofs.Common.{arith, ◌∙◌}
 use Rattle.std.proofs.Math.Path.{refl, ap}
 use Rattle.std.proofs.Math.Bool.{true, false, not}
@@ -98,14 +98,14 @@ module _ (s : Bma150) (now : Time) (before after : Levels) where
 
   -- quiet, and not in an acknowledge: the engine waits for START, which it does not hear; nothing is written or fetched
   pub quiet_silent : accepts s report ≡ true → i2c_listens s.sensor ≡ true → is_quiet s.sensor ≡ true → E.acknowledging s.sensor.i2c.phase ≡ false
-      → (step s report).sensor ≡ with_lines (acted (if is_condition e then A.Drop else A.Nothing) (with_i2c u (E.aborted s.sensor.i2c)) now) after
+      → (step s report).sensor ≡ with_lines (acted (if is_condition e then Some A.Drop else None) (with_i2c u (E.aborted s.sensor.i2c)) now) after
   quiet_silent a l q k =
       quiet_report a l q
       ∙ ap (λ (t : Step). with_lines (acted t.action (with_i2c u t.state) now) after) (quiet_aborts s.sensor.i2c e (ones_for s.sensor.frame.tx) k)
 
   -- quiet, START and STOP: also an acknowledge is dropped
   pub quiet_hears_no_start : accepts s report ≡ true → i2c_listens s.sensor ≡ true → is_quiet s.sensor ≡ true → is_condition e ≡ true
-      → (step s report).sensor ≡ with_lines (acted A.Drop (with_i2c u (E.aborted s.sensor.i2c)) now) after
+      → (step s report).sensor ≡ with_lines (acted (Some A.Drop) (with_i2c u (E.aborted s.sensor.i2c)) now) after
   quiet_hears_no_start a l q k =
       quiet_report a l q
       ∙ ap (λ (t : Step). with_lines (acted t.action (with_i2c u t.state) now) after) (quiet_conditions s.sensor.i2c e (ones_for s.sensor.frame.tx) k)

@@ -5,6 +5,7 @@ use Rattle.std.proofs.Math.Bool.{true, false}
 use mathlib.Core.List.Memᴰ
 use mathlib.Core.List.{List, [], ◌∷◌, Memᴰ}
 use borrow.Author.Tests.{ltb-true, ltb-false, le-leb, lt-leb, leb-true}
+use Rattle.std.proofs.lemmas.Bool.{false≢true}
 use Rattle.time.specs.declared.Time.{Time}
 use Rattle.time.specs.Time.{ticks, precedes}
 use Rattle.deadlines.specs.declared.Deadlines.{Deadlines}
@@ -51,7 +52,7 @@ module _ (t u : Time) where
 never_by : (d : Option Time) (t : Time) → d ≡ None → is_by d t ≡ true → ⊥
 unfolding is_by
 never_by (Some u) t p q = let z : ◌≡◌ {A = ℕ} 0 1 = cc in omega arith
-never_by None t p q = let z : ◌≡◌ {A = ℕ} 0 1 = cc in omega arith
+never_by None t p q = false≢true q
 
 by_itself : (t : Time) → is_by (Some t) t ≡ true
 unfolding is_by

@@ -280,15 +280,15 @@ module _ (now : Time) (R : Sensor → Sensor → Type 0) (p : Steps now R) where
   unfolding pins_synced
   pins_synced_meets s e = choose (i2c_listens s && (E.consumes_conversion s.i2c e && not (is_quiet s))) (λ q. sync_meets s true) (λ q. same_as s)
 
-  acted_meets : (a : Action) (s : Sensor) → R s (acted a s now)
+  acted_meets : (a : Option Action) (s : Sensor) → R s (acted a s now)
   unfolding acted
-  acted_meets Action.Nothing s = same_as s
-  acted_meets Action.Drop s = p.then (p.sends s None) (p.drops_read _)
-  acted_meets (Action.Write r v) s = p.then (register_meets s r v) (p.acknowledges _)
-  acted_meets (Action.Launch r) s =
+  acted_meets None s = same_as s
+  acted_meets (Some Action.Drop) s = p.then (p.sends s None) (p.drops_read _)
+  acted_meets (Some (Action.Write r v)) s = p.then (register_meets s r v) (p.acknowledges _)
+  acted_meets (Some (Action.Launch r)) s =
       let f = fetched (peek s r) s r in
       p.then (fetched_meets (peek s r) s r) (p.then (p.sends f.sensor f.sent) (p.launches _ (ones_for f.sent)))
-  acted_meets (Action.ReadBegan r) s = byte_read_meets s.frame.tx s r
+  acted_meets (Some (Action.ReadBegan r)) s = byte_read_meets s.frame.tx s r
 
   i2c_pins_meets : (s : Sensor) (e : Edge) → R s (i2c_pins s e now)
   unfolding i2c_pins

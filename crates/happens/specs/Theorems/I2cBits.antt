@@ -1,5 +1,5 @@
 -- I2C reports of a sensor that stands still and is not selected: bytes of a write transfer, each with its ninth clock.
-use Rattle.std.specs.Prelude.{ℕ, ◌+◌, ◌%◌, ◌<◌, ◌≤◌, ◌≡◌, Bool, None}
+use Rattle.std.specs.Prelude.{ℕ, ◌+◌, ◌%◌, ◌<◌, ◌≤◌, ◌≡◌, Bool, None, Some}
 use Rattle.std.proofs.Math.Nat.{add-zero}
 use Rattle.std.proofs.Common.{mod-eq_of_lt, sym, subst, ◌∙◌, lt-ltb, leb→le, lit<}
 use native.Mathlib.Omega.{arith}
@@ -127,9 +127,9 @@ module _ (now : Time) (late : T.late now ≡ false) (s : Sensor) (h : Held now s
       → Goes (host now (on_bus s (receives k p n y) (lines false level))) (clocks now level (d ∷ ds)) u
   unfolding clocks edge data_moves E.step is_condition is_rise is_fall data_at E.within_byte E.byte_step E.at_ninth E.completes acted
   bit_goes k p n y level d ds l g =
-      report_goes (receives k p n y) (lines false level) (lines false d) (E.and_do (receives k p n y) A.Nothing) refl
-      (report_goes (receives k p n y) (lines false d) (lines true d) (E.and_do (receives k p (n + 1) (shifted_in y d)) A.Nothing) (rw (lt-ltb n 7 l))
-      (report_goes (receives k p (n + 1) (shifted_in y d)) (lines true d) (lines false d) (E.and_do (receives k p (n + 1) (shifted_in y d)) A.Nothing) refl g))
+      report_goes (receives k p n y) (lines false level) (lines false d) (E.and_do (receives k p n y) None) refl
+      (report_goes (receives k p n y) (lines false d) (lines true d) (E.and_do (receives k p (n + 1) (shifted_in y d)) None) (rw (lt-ltb n 7 l))
+      (report_goes (receives k p (n + 1) (shifted_in y d)) (lines true d) (lines false d) (E.and_do (receives k p (n + 1) (shifted_in y d)) None) refl g))
 
   bits_go : (k : Receive) (p : ℕ) (ds : List Bool) (n y : ℕ) (level : Bool) → n + length ds ≤ 7
       → Goes (host now (on_bus s (receives k p n y) (lines false level))) (clocks now level ds)
@@ -156,23 +156,23 @@ module _ (now : Time) (late : T.late now ≡ false) (s : Sensor) (h : Held now s
   abbrev ninth : (level : Bool) → List Call
   ninth d = report now (lines true d) (lines false d) ∷ clocks now d (false ∷ [])
 
-  ninth_goes : (f : Following) (k : Receive) (p : ℕ) (d : Bool) → ((st : State) → E.followed st f ≡ E.and_do (E.with_low st (P.Receive k) false) A.Nothing)
+  ninth_goes : (f : Following) (k : Receive) (p : ℕ) (d : Bool) → ((st : State) → E.followed st f ≡ E.and_do (E.with_low st (P.Receive k) false) None)
       → Goes (host now (on_bus s (engine (P.Acknowledge f 0) p 0 0) (lines true d))) (ninth d) (host now (on_bus s (receives k p 0 0) (lines false false)))
   unfolding clocks edge data_moves E.step is_condition is_rise is_fall data_at E.within_byte E.at_ninth E.ninth_step E.acknowledge_step E.completes acted
   ninth_goes f k p d follows =
       let pulled = acknowledges f 1 p in
       let read = acknowledges f 2 p in
-      report_goes (engine (P.Acknowledge f 0) p 0 0) (lines true d) (lines false d) (E.and_do pulled A.Nothing) refl
-      (report_goes pulled (lines false d) (lines false false) (E.and_do pulled A.Nothing) refl
-      (report_goes pulled (lines false false) (lines true false) (E.and_do read A.Nothing) refl
-      (report_goes read (lines true false) (lines false false) (E.and_do (receives k p 0 0) A.Nothing) (follows read) (goes_nowhere (host now (on_bus s (receives k p 0 0) (lines false false)))))))
+      report_goes (engine (P.Acknowledge f 0) p 0 0) (lines true d) (lines false d) (E.and_do pulled None) refl
+      (report_goes pulled (lines false d) (lines false false) (E.and_do pulled None) refl
+      (report_goes pulled (lines false false) (lines true false) (E.and_do read None) refl
+      (report_goes read (lines true false) (lines false false) (E.and_do (receives k p 0 0) None) (follows read) (goes_nowhere (host now (on_bus s (receives k p 0 0) (lines false false)))))))
 
   -- the eighth rise of a byte, and what comes after it
   last_goes : (k : Receive) (p y : ℕ) (level d : Bool) (r : Step) {u : Bma150} → E.received k (receives k p 7 y) (shifted_in y d) ≡ r
       → Goes (host now (left r (lines false d) (lines true d))) (ninth d) u → Goes (host now (on_bus s (receives k p 7 y) (lines false level))) (clocks now level (d ∷ false ∷ [])) u
   unfolding clocks edge data_moves E.step is_condition is_rise is_fall data_at E.within_byte E.at_ninth E.completes E.completed acted
   last_goes k p y level d r e g =
-      report_goes (receives k p 7 y) (lines false level) (lines false d) (E.and_do (receives k p 7 y) A.Nothing) refl
+      report_goes (receives k p 7 y) (lines false level) (lines false d) (E.and_do (receives k p 7 y) None) refl
       (report_goes (receives k p 7 y) (lines false d) (lines true d) r e g)
 
   -- 70 hex: a register follows
@@ -180,7 +180,7 @@ module _ (now : Time) (late : T.late now ≡ false) (s : Sensor) (h : Held now s
   unfolding E.received E.addressed E.followed acted
   address_goes p =
       goes_on (seven_go R.Address p 0x70)
-      (last_goes R.Address p (all_shifted_in 0 (seven_bits 0x70)) (sent_bit 0x70 6) (sent_bit 0x70 7) (E.and_do (engine (P.Acknowledge Fo.Control 0) p 0 0) A.Nothing) (rw (bits_make_the_byte 0x70 (lit< tt)))
+      (last_goes R.Address p (all_shifted_in 0 (seven_bits 0x70)) (sent_bit 0x70 6) (sent_bit 0x70 7) (E.and_do (engine (P.Acknowledge Fo.Control 0) p 0 0) None) (rw (bits_make_the_byte 0x70 (lit< tt)))
       (ninth_goes Fo.Control R.Control p (sent_bit 0x70 7) (λ st. refl)))
 
   -- a register byte: its value follows
@@ -188,7 +188,7 @@ module _ (now : Time) (late : T.late now ≡ false) (s : Sensor) (h : Held now s
   unfolding E.received E.followed acted
   register_goes p r l =
       goes_on (seven_go R.Control p r)
-      (last_goes R.Control p (all_shifted_in 0 (seven_bits r)) (sent_bit r 6) (sent_bit r 7) (E.and_do (engine (P.Acknowledge Fo.Data 0) (r % 128) 0 0) A.Nothing) (rw (bits_make_the_byte r l))
+      (last_goes R.Control p (all_shifted_in 0 (seven_bits r)) (sent_bit r 6) (sent_bit r 7) (E.and_do (engine (P.Acknowledge Fo.Data 0) (r % 128) 0 0) None) (rw (bits_make_the_byte r l))
       (ninth_goes Fo.Data R.Data (r % 128) (sent_bit r 7) (λ st. refl)))
 
 -- the sensor that meets the write of a value: its last bit is on the data line
@@ -214,7 +214,7 @@ module _ (now : Time) (late : T.late now ≡ false) (s : Sensor) (h : Held now s
     unfolding E.received E.followed acted
     value_goes =
         goes_on (seven_go now late s h unselected R.Data p v)
-        (last_goes now late s h unselected R.Data p (all_shifted_in 0 (seven_bits v)) (sent_bit v 6) (sent_bit v 7) (E.and_do (engine P.Idle p 0 0) (A.Write p v)) (rw (bits_make_the_byte v l))
+        (last_goes now late s h unselected R.Data p (all_shifted_in 0 (seven_bits v)) (sent_bit v 6) (sent_bit v 7) (E.and_do (engine P.Idle p 0 0) (Some (A.Write p v))) (rw (bits_make_the_byte v l))
         (subst (λ (k : Sensor). Goes (host now k) (ninth now late s h unselected (sent_bit v 7)) (host now (on_bus written (receives R.Control p 0 0) (lines false false)))) (sym begun)
         (ninth_goes now late written g f Fo.Control R.Control p (sent_bit v 7) (λ st. refl))))
 
@@ -240,6 +240,6 @@ module _ (now : Time) (late : T.late now ≡ false) (s : Sensor) (h : Held now s
   pub start_goes : Goes (host now (with_lines s (lines true true))) (start_reports now) (host now (on_bus (byte_dropped s) addressing (lines false false)))
   unfolding edge data_moves E.step is_condition is_start is_rise is_fall E.conditioned E.within_byte E.at_ninth E.completes acted
   start_goes =
-      report_goes now late s h unselected s.i2c (lines true true) (lines true false) (E.and_do addressing A.Drop) refl
-      (report_goes now late (byte_dropped s) dropped_held unselected addressing (lines true false) (lines false false) (E.and_do addressing A.Nothing) refl
+      report_goes now late s h unselected s.i2c (lines true true) (lines true false) (E.and_do addressing (Some A.Drop)) refl
+      (report_goes now late (byte_dropped s) dropped_held unselected addressing (lines true false) (lines false false) (E.and_do addressing None) refl
       (goes_nowhere (host now (on_bus (byte_dropped s) addressing (lines false false)))))

@@ -1,13 +1,14 @@
 -- Whole transfers, of any length and every byte, as a sensor that hears the bus serves them.
 use Rattle.std.proofs.Math.Path.{◌≡◌, refl, ap}
 use Rattle.std.proofs.Common.{sym, subst, ◌∙◌, leb→le, drop-drop}
-use Rattle.std.specs.Prelude.{Bool, true, drop}
+use Rattle.std.specs.Prelude.{Bool, true, drop, Some, None}
 use Rattle.std.proofs.Math.Bool.{false}
 use mathlib.Core.List.{List, [], ◌∷◌, ◌++◌}
 use Prim.Native.Nat.{ℕ, zero, suc, ◌+◌, ◌%◌, ◌≤◌, ◌<◌}
 use Rattle.std.proofs.Math.Nat.{add-zero}
 use native.Mathlib.Omega.{arith}
 use borrow.Author.Tests.{lt-ltb, ne_eqb}
+use Rattle.std.proofs.lemmas.Bool.{true≢false}
 use Rattle.std.proofs.Math.ListN.{length}
 use Rattle.laws.specs.Bools.{or_left, or_right}
 use Rattle.laws.specs.Bytes.{sent_bit, shifted_in, all_shifted_in, seven_bits, bits_make_the_byte}
@@ -86,11 +87,11 @@ and_serves {v} {w} {x} {es} {ds} {fs} {a} {b} p q =
 
 -- ---- START and STOP at any point drop what was going on and do nothing else
 
-pub start_drops : (shows : ℕ → ℕ) (v : Target) → (serve shows v Start ≡ at (P.Receive R.Address) v.state.pointer 0 0 false 0xff) × (deed v Start ≡ A.Drop)
+pub start_drops : (shows : ℕ → ℕ) (v : Target) → (serve shows v Start ≡ at (P.Receive R.Address) v.state.pointer 0 0 false 0xff) × (deed v Start ≡ Some A.Drop)
 unfolding serve act step is_condition is_start conditioned
 start_drops shows v = (refl, refl)
 
-pub stop_drops : (shows : ℕ → ℕ) (v : Target) → (serve shows v Stop ≡ at P.Idle v.state.pointer 0 0 false 0xff) × (deed v Stop ≡ A.Drop)
+pub stop_drops : (shows : ℕ → ℕ) (v : Target) → (serve shows v Stop ≡ at P.Idle v.state.pointer 0 0 false 0xff) × (deed v Stop ≡ Some A.Drop)
 unfolding serve act step is_condition is_start conditioned
 stop_drops shows v = (refl, refl)
 
@@ -98,7 +99,7 @@ stop_drops shows v = (refl, refl)
 
 module _ (k : Receive) (p s : ℕ) where
   rise_step : (b x : ℕ) (d : Bool) → b < 7
-      → step (at (P.Receive k) p b x false s).state (Rise d) false s ≡ record { state = (at (P.Receive k) p (b + 1) (shifted_in x d) false s).state; action = A.Nothing }
+      → step (at (P.Receive k) p b x false s).state (Rise d) false s ≡ record { state = (at (P.Receive k) p (b + 1) (shifted_in x d) false s).state; action = None }
   unfolding step is_condition is_rise is_fall data_at within_byte byte_step
   rise_step b x d h = rw (lt-ltb b 7 h)
 
@@ -154,7 +155,7 @@ module _ (p s : ℕ) (b : ℕ) (small : b < 256) (level : Bool) (fs : Shown) whe
 
   -- a value byte is written at the pointer, and is acknowledged
   value_last : (gs : Shown)
-      → Serves (at (P.Receive R.Data) p 7 so_far false s) (Rise (sent_bit b 7) ∷ ninth_clock level) gs (free_and (A.Write p b) ∷ acknowledge) (at (P.Receive R.Control) p 0 0 false s)
+      → Serves (at (P.Receive R.Data) p 7 so_far false s) (Rise (sent_bit b 7) ∷ ninth_clock level) gs (free_and (Some (A.Write p b)) ∷ acknowledge) (at (P.Receive R.Control) p 0 0 false s)
   unfolding seen left serve act step is_condition is_start is_rise is_fall data_at within_byte byte_step at_ninth ninth_step acknowledge_step followed completes completed received
   value_last gs = record { is_seen = rw (bits_make_the_byte b small); is_left = refl }
 
@@ -291,18 +292,18 @@ module _ (k : Receive) (p s : ℕ) (ds : List Bool) (few : length ds ≤ 6) (fs 
   bits : Serves (at (P.Receive k) p 0 0 false s) (clocked ds) fs (frees ds) (at (P.Receive k) p (0 + length ds) (all_shifted_in 0 ds) false s)
   bits = bits_received k p s ds 0 0 fs (omega arith)
 
-  ended : (b x : ℕ) (gs : Shown) → Serves (at (P.Receive k) p b x false s) (Stop ∷ []) gs (free_and A.Drop ∷ []) (at P.Idle p 0 0 false 0xff)
+  ended : (b x : ℕ) (gs : Shown) → Serves (at (P.Receive k) p b x false s) (Stop ∷ []) gs (free_and (Some A.Drop) ∷ []) (at P.Idle p 0 0 false 0xff)
   unfolding seen left serve act step is_condition is_start conditioned
   ended b x gs = record { is_seen = refl; is_left = refl }
 
-  anew : (b x : ℕ) (gs : Shown) → Serves (at (P.Receive k) p b x false s) (Start ∷ []) gs (free_and A.Drop ∷ []) (at (P.Receive R.Address) p 0 0 false 0xff)
+  anew : (b x : ℕ) (gs : Shown) → Serves (at (P.Receive k) p b x false s) (Start ∷ []) gs (free_and (Some A.Drop) ∷ []) (at (P.Receive R.Address) p 0 0 false 0xff)
   unfolding seen left serve act step is_condition is_start conditioned
   anew b x gs = record { is_seen = refl; is_left = refl }
 
-  broken_end : (b x : ℕ) (gs : Shown) → b < 7 → Serves (at (P.Receive k) p b x false s) stop gs (free ∷ free_and A.Drop ∷ []) (at P.Idle p 0 0 false 0xff)
+  broken_end : (b x : ℕ) (gs : Shown) → b < 7 → Serves (at (P.Receive k) p b x false s) stop gs (free ∷ free_and (Some A.Drop) ∷ []) (at P.Idle p 0 0 false 0xff)
   broken_end b x gs h = and_serves (one_rise k p s b x false gs h) (ended (b + 1) (shifted_in x false) (drop 1 gs))
 
-  broken_anew : (b x : ℕ) (gs : Shown) → b < 7 → Serves (at (P.Receive k) p b x false s) (again ++ (Start ∷ [])) gs (free ∷ free_and A.Drop ∷ []) (at (P.Receive R.Address) p 0 0 false 0xff)
+  broken_anew : (b x : ℕ) (gs : Shown) → b < 7 → Serves (at (P.Receive k) p b x false s) (again ++ (Start ∷ [])) gs (free ∷ free_and (Some A.Drop) ∷ []) (at (P.Receive R.Address) p 0 0 false 0xff)
   broken_anew b x gs h = and_serves (one_rise k p s b x true gs h) (anew (b + 1) (shifted_in x true) (drop 1 gs))
 
   pub broken_by_stop : Serves (at (P.Receive k) p 0 0 false s) (broken ds) fs (broken_answer ds) (at P.Idle p 0 0 false 0xff)
@@ -325,7 +326,7 @@ module _ (v : Target) (level : Bool) (ps : List Pair) (small : Bytes ps) (ds : L
 
 -- ---- another address: silence until START
 
-begun : (v : Target) (fs : Shown) → Serves v (Start ∷ Fall ∷ []) fs (free_and A.Drop ∷ free ∷ []) (at (P.Receive R.Address) v.state.pointer 0 0 false 0xff)
+begun : (v : Target) (fs : Shown) → Serves v (Start ∷ Fall ∷ []) fs (free_and (Some A.Drop) ∷ free ∷ []) (at (P.Receive R.Address) v.state.pointer 0 0 false 0xff)
 unfolding seen left serve act step is_condition is_start is_rise is_fall conditioned within_byte at_ninth completes acknowledging
 begun v fs = record { is_seen = refl; is_left = refl }
 
@@ -356,7 +357,7 @@ module _ (p : ℕ) where
   idle_step : (f : ℕ → ℕ) (e : Edge) (s : ℕ) → is_start e ≡ false → (seen_at f (at P.Idle p 0 0 false s) e ≡ silent e) × (serve f (at P.Idle p 0 0 false s) e ≡ at P.Idle p 0 0 false (kept e s))
   unfolding kept silent serve act step is_condition is_start is_rise is_fall conditioned acknowledging within_byte at_ninth completes
   idle_step f Still s h = (refl, refl)
-  idle_step f Start s h = let z : ◌≡◌ {A = ℕ} 0 1 = cc in absurd (omega arith)
+  idle_step f Start s h = absurd (true≢false h)
   idle_step f Stop s h = (refl, refl)
   idle_step f (Rise d) s h = (refl, refl)
   idle_step f Fall s h = (refl, refl)
@@ -422,7 +423,7 @@ module _ (p b x : ℕ) (l : Bool) (s : ℕ) (f g : ℕ → ℕ) (n : ℕ) where
   unfolding serve act step is_condition is_rise is_fall within_byte at_ninth ninth_step acknowledge_step followed reads_next
   acknowledge_cleared F.Control h = refl
   acknowledge_cleared F.Data h = refl
-  acknowledge_cleared F.Read h = let z : ◌≡◌ {A = ℕ} 0 1 = cc in absurd (omega arith)
+  acknowledge_cleared F.Read h = absurd (true≢false h)
   acknowledge_cleared F.Idle h = refl
 
 -- then it has sent a byte after nine clocks, and frees the line for the master's answer

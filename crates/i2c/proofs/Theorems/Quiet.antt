@@ -1,7 +1,7 @@
 -- Quiet after a soft reset: an acknowledge that was begun is finished, and nothing else is heard, START included.
-use Rattle.std.specs.Prelude.{◌≡◌, Bool, true, false, ℕ, if◌then◌else◌}
+use Rattle.std.specs.Prelude.{◌≡◌, Bool, true, false, ℕ, if◌then◌else◌, Some, None}
 use Rattle.std.proofs.Math.Path.{refl}
-use Rattle.std.proofs.Common.{arith}
+use Rattle.std.proofs.lemmas.Bool.{false≢true}
 use Rattle.i2c.specs.declared.types.Edge.{Edge}
 use Rattle.i2c.specs.declared.types.Edge.TheVariants.{Still, Start, Stop, Rise, Fall}
 use Rattle.i2c.specs.declared.types.State.{State}
@@ -10,7 +10,7 @@ use Rattle.i2c.specs.Bus.{is_condition, is_start, is_rise, is_fall}
 use Rattle.i2c.specs.Engine.{aborted, and_do, conditioned, acknowledging, within_byte, at_ninth, followed, acknowledge_step, ninth_step, step, written}
 
 -- an engine that does not acknowledge waits for START after any report; START and STOP drop the byte being sent
-pub quiet_aborts : (s : State) (e : Edge) (sent : ℕ) → acknowledging s.phase ≡ false → step s e true sent ≡ and_do (aborted s) (if is_condition e then A.Drop else A.Nothing)
+pub quiet_aborts : (s : State) (e : Edge) (sent : ℕ) → acknowledging s.phase ≡ false → step s e true sent ≡ and_do (aborted s) (if is_condition e then Some A.Drop else None)
 unfolding step is_condition is_start conditioned
 quiet_aborts s Still sent h = rw h
 quiet_aborts s Start sent h = refl
@@ -19,13 +19,13 @@ quiet_aborts s (Rise d) sent h = rw h
 quiet_aborts s Fall sent h = rw h
 
 -- so does one that does at START or STOP
-pub quiet_conditions : (s : State) (e : Edge) (sent : ℕ) → is_condition e ≡ true → step s e true sent ≡ and_do (aborted s) A.Drop
+pub quiet_conditions : (s : State) (e : Edge) (sent : ℕ) → is_condition e ≡ true → step s e true sent ≡ and_do (aborted s) (Some A.Drop)
 unfolding step conditioned is_start is_condition
-quiet_conditions s Still sent h = let z : ◌≡◌ {A = ℕ} 0 1 = cc in absurd (omega (arith, z))
+quiet_conditions s Still sent h = absurd (false≢true h)
 quiet_conditions s Start sent h = refl
 quiet_conditions s Stop sent h = refl
-quiet_conditions s (Rise d) sent h = let z : ◌≡◌ {A = ℕ} 0 1 = cc in absurd (omega (arith, z))
-quiet_conditions s Fall sent h = let z : ◌≡◌ {A = ℕ} 0 1 = cc in absurd (omega (arith, z))
+quiet_conditions s (Rise d) sent h = absurd (false≢true h)
+quiet_conditions s Fall sent h = absurd (false≢true h)
 
 -- an acknowledge goes on as it does when not quiet
 pub quiet_finishes : (s : State) (e : Edge) (sent : ℕ) → acknowledging s.phase ≡ true → is_condition e ≡ false → step s e true sent ≡ step s e false sent

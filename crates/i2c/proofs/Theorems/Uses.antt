@@ -1,5 +1,5 @@
 -- Which events use converted values: exactly those that write, fetch or note a read.
-use Rattle.std.specs.Prelude.{◌≡◌, Bool, leb, ltb, eqb}
+use Rattle.std.specs.Prelude.{◌≡◌, Bool, leb, ltb, eqb, Option, Some, None}
 use Rattle.std.proofs.Math.Path.{refl}
 use Rattle.std.proofs.Math.Bool.{true, false}
 use Prim.Native.Nat.{ℕ, zero, suc, ◌≤◌}
@@ -22,12 +22,12 @@ use Rattle.i2c.specs.Bus.{is_condition, is_start, is_rise, is_fall, data_at}
 use Rattle.i2c.specs.Engine.{conditioned, within_byte, bit_taken, byte_step, at_ninth, followed, acknowledge_step, answered, answer_step, ninth_step, addressed, received, completes, completed, step, uses_as, uses_at_rise, reads_next, goes_on, uses_at_fall, consumes_conversion}
 
 -- what the sensor does needs a value
-unfoldable pub uses : Action → Bool
-uses A.Nothing = false
-uses A.Drop = false
-uses (A.Write r x) = true
-uses (A.Launch r) = true
-uses (A.ReadBegan r) = true
+unfoldable pub uses : Option Action → Bool
+uses None = false
+uses (Some A.Drop) = false
+uses (Some (A.Write r x)) = true
+uses (Some (A.Launch r)) = true
+uses (Some (A.ReadBegan r)) = true
 
 module _ (p b x : ℕ) (l : Bool) (sent : ℕ) where
   abbrev in_phase : Phase → State

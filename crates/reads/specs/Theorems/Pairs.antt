@@ -5,7 +5,7 @@ use Rattle.std.proofs.Common.{◌∙◌, arith, length-set, get_or-set_same}
 use Rattle.std.proofs.lemmas.Bool.{both_ways}
 use Rattle.std.specs.Option.{is_some, option_map_or}
 use borrow.Author.Tests.{leb-true, le-leb, eq-eqb}
-use Rattle.laws.specs.Bools.{and_right}
+use Rattle.std.proofs.lemmas.Bool.{and_parts}
 use Rattle.registers.specs.Map.{acc_lsb, acc_msb, new_data}
 use Rattle.reads.specs.declared.Reads.{Reads}
 use Rattle.reads.specs.declared.Prepared.{Prepared}
@@ -17,8 +17,8 @@ use Rattle.reads.specs.Reads.{is_acceleration, is_shadowed, axis_of, is_low, wit
 pub axis_lt : (address : ℕ) (shadowing : Bool) → is_shadowed address shadowing ≡ true → axis_of address < 3
 unfolding is_shadowed is_acceleration
 axis_lt address shadowing e =
-    let p : is_acceleration address ≡ true = and_right shadowing (is_acceleration address) e in
-    omega (arith, leb-true address 7 (and_right (leb 2 address) (leb address 7) p))
+    let p : is_acceleration address ≡ true = (and_parts shadowing (is_acceleration address) e).1 in
+    omega (arith, leb-true address 7 ((and_parts (leb 2 address) (leb address 7) p).1))
 
 module _ (axis : ℕ) (p : axis < 3) where
   low_is : is_shadowed (acc_lsb axis) true ≡ true

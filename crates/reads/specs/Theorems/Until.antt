@@ -4,7 +4,7 @@ use Rattle.std.proofs.lemmas.Bool.{both_ways}
 use Rattle.std.specs.Option.{is_some, unwrap_or, option_map_or}
 use Rattle.std.proofs.Common.{sym, ◌∙◌, arith, length-set, get_or-set_other}
 use borrow.Author.Tests.{leb-true, eqb-true, eqb-false}
-use Rattle.laws.specs.Bools.{and_left}
+use Rattle.std.proofs.lemmas.Bool.{and_parts}
 use Rattle.registers.specs.Map.{acc_lsb, acc_msb}
 use Rattle.reads.specs.declared.Reads.{Reads}
 use Rattle.reads.specs.Reads.{is_acceleration, is_shadowed, axis_of, is_low, without_new_data, shadow, is_held, held_high, pair, high_byte, dropped, prepared_high, prepared, finished, read_began}
@@ -68,7 +68,7 @@ module _ (s : Reads) (axis : ℕ) (p : axis < 3) (sized : Sized s) (h : is_held 
   not_this : (address : ℕ) → is_shadowed address true ≡ true → is_low address ≡ false → (address ≡ acc_msb axis → ⊥) → axis_of address ≡ axis → ⊥
   unfolding is_shadowed is_acceleration
   not_this address e l n q =
-      n (omega (arith, leb-true 2 address (and_left (leb 2 address) (leb address 7) e), eqb-false (address % 2) 0 l))
+      n (omega (arith, leb-true 2 address ((and_parts (leb 2 address) (leb address 7) e).0), eqb-false (address % 2) 0 l))
 
   by_axis : (a low high : ℕ) (b : Bool) → eqb a axis ≡ b → Kept axis s (after_low s a low high)
   by_axis a low high true e = held_same a low high (eqb-true a axis e)

@@ -2,6 +2,7 @@
 use Rattle.std.specs.Prelude.{◌≡◌, refl, Bool, true, false, List, [], ◌∷◌, ◌++◌, ℕ, suc, ◌+◌, ◌≤◌, ◌<◌, ltb, drop, Option, Some, None}
 use Rattle.std.proofs.Common.{sym, subst, ◌∙◌, zero-add, arith, ltb-false}
 use Rattle.std.proofs.Math.Path.{ap}
+use Rattle.std.proofs.lemmas.Bool.{true≢false, false≢true}
 use Rattle.std.proofs.Math.Bool.{cond}
 use Rattle.laws.specs.Bytes.{shifted_in}
 use Rattle.spi.specs.declared.types.Serial.{Serial}
@@ -204,7 +205,7 @@ pub broken_frame_writes_nothing : (es : List Event) (ns : List Now) → rises es
 unfolding bits_held
 broken_frame_writes_nothing es ns h = (
   too_few_rises_write_nothing (fresh true) es ns (rw zero-add h),
-  select_drops (left (fresh true) es ns) false (λ e. let s = left_selected (fresh true) es ns in let z : ◌≡◌ {A = ℕ} 0 1 = cc in omega arith),
+  select_drops (left (fresh true) es ns) false (λ e. true≢false (sym (left_selected (fresh true) es ns) ∙ e)),
 )
 
 -- ---- a read writes nothing
@@ -212,9 +213,9 @@ broken_frame_writes_nothing es ns h = (
 completed_reads : (s : Serial) (f : Frame) (x : ℕ) (four_wire : Bool) → reads s ≡ true
     → ((completed s f x four_wire).write ≡ None) × (reads (completed s f x four_wire).frame.serial ≡ true)
 unfolding completed reads
-completed_reads S.Address f x four_wire r = let z : ◌≡◌ {A = ℕ} 0 1 = cc in absurd (omega arith)
+completed_reads S.Address f x four_wire r = absurd (false≢true r)
 completed_reads (S.Read a) f x four_wire r = (refl, refl)
-completed_reads (S.Write a) f x four_wire r = let z : ◌≡◌ {A = ℕ} 0 1 = cc in absurd (omega arith)
+completed_reads (S.Write a) f x four_wire r = absurd (false≢true r)
 
 taken_reads : (c : Bool) (f : Frame) (mosi four_wire : Bool) → ltb f.rx_bits 7 ≡ c → reads f.serial ≡ true
     → ((take_bit f mosi four_wire).write ≡ None) × (reads (take_bit f mosi four_wire).frame.serial ≡ true)

@@ -6,7 +6,7 @@ use Rattle.std.proofs.Math.Bool.{true, false}
 use mathlib.Core.List.{List, [], ◌∷◌, ◌++◌}
 use Rattle.std.proofs.Math.Nat.{add-zero}
 use native.Mathlib.Omega.{arith}
-use Rattle.std.proofs.lemmas.Bool.{lt-leb}
+use Rattle.std.proofs.lemmas.Bool.{lt-leb, true≢false, false≢true}
 use Rattle.std.proofs.Math.ListN.{length}
 use Rattle.laws.specs.Bytes.{sent_bit, shifted_in, all_shifted_in, seven_bits, bits_make_the_byte}
 use Rattle.spi.specs.declared.types.Serial.{Serial}
@@ -82,10 +82,10 @@ differs_if false false h = absurd (h refl)
 
 pub differs_only_if : (was l : Bool) → differs was l ≡ true → was ≡ l → ⊥
 unfolding differs
-differs_only_if true true h e = let z : ◌≡◌ {A = ℕ} 0 1 = cc in omega arith
-differs_only_if true false h e = let z : ◌≡◌ {A = ℕ} 0 1 = cc in omega arith
-differs_only_if false true h e = let z : ◌≡◌ {A = ℕ} 0 1 = cc in omega arith
-differs_only_if false false h e = let z : ◌≡◌ {A = ℕ} 0 1 = cc in omega arith
+differs_only_if true true h e = false≢true h
+differs_only_if true false h e = true≢false e
+differs_only_if false true h e = false≢true e
+differs_only_if false false h e = false≢true h
 
 same_level : (l : Bool) → differs l l ≡ false
 unfolding differs
@@ -103,8 +103,8 @@ unfolding select
 select_keeps f l h = rw (ap (λ (m : Bool). differs f.selected m) (sym h) ∙ same_level f.selected)
 
 anew : (was : Bool) (f : Frame) → f.selected ≡ was → select (select f false) true ≡ fresh true
-anew true f h = ap (λ (g : Frame). select g true) (select_drops f false (λ e. let z : ◌≡◌ {A = ℕ} 0 1 = cc in omega arith)) ∙ select_drops (fresh false) true (λ e. let z : ◌≡◌ {A = ℕ} 0 1 = cc in omega arith)
-anew false f h = ap (λ (g : Frame). select g true) (select_keeps f false h) ∙ select_drops f true (λ e. let z : ◌≡◌ {A = ℕ} 0 1 = cc in omega arith)
+anew true f h = ap (λ (g : Frame). select g true) (select_drops f false (λ e. true≢false (sym h ∙ e))) ∙ select_drops (fresh false) true false≢true
+anew false f h = ap (λ (g : Frame). select g true) (select_keeps f false h) ∙ select_drops f true (λ e. false≢true (sym h ∙ e))
 
 -- deselected and selected again, any frame begins anew
 pub selected_anew : (f : Frame) → select (select f false) true ≡ fresh true
@@ -133,7 +133,7 @@ still_as : (shows : ℕ → Option ℕ) (moves? : Bool) (s : Serial) (b x : ℕ)
 unfolding reads fetches output fetched moved
 still_as shows true S.Address b x r = (refl, refl)
 still_as shows true (S.Write a) b x r = (refl, refl)
-still_as shows true (S.Read a) b x r = let z : ◌≡◌ {A = ℕ} 0 1 = cc in absurd (omega arith)
+still_as shows true (S.Read a) b x r = absurd (true≢false r)
 still_as shows false s b x r = (refl, refl)
 
 still : (shows : ℕ → Option ℕ) (at : Clocked) (four_wire : Bool) (s : Serial) (b x : ℕ) → reads s ≡ false
@@ -145,7 +145,7 @@ no_note : (s : Serial) (b : ℕ) → reads s ≡ false → first_bit s b ≡ Non
 unfolding reads first_bit
 no_note S.Address b r = refl
 no_note (S.Write a) b r = refl
-no_note (S.Read a) b r = let z : ◌≡◌ {A = ℕ} 0 1 = cc in absurd (omega arith)
+no_note (S.Read a) b r = absurd (true≢false r)
 
 -- a rise that ends in a byte received, with what the bit makes of the frame
 module _ (s : Serial) (r : reads s ≡ false) (b x : ℕ) (d : Bool) (to : Serial) (q : reads to ≡ false) (c y : ℕ) where

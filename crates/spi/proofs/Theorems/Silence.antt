@@ -1,6 +1,7 @@
 -- Outside a read nothing is sent, so that a write that pauses or resets the sensor finds nothing of its frame to release.
 use Rattle.std.specs.Prelude.{◌≡◌, refl, Bool, true, false, List, [], ◌∷◌, ℕ, ltb, drop, Option, Some, None}
 use Rattle.std.proofs.Common.{sym, ap, subst, ◌∙◌, arith}
+use Rattle.std.proofs.lemmas.Bool.{true≢false}
 use Rattle.laws.specs.Bytes.{shifted_in}
 use Rattle.spi.specs.declared.types.Serial.{Serial}
 use Rattle.spi.specs.declared.types.Serial.TheVariants as S
@@ -20,12 +21,12 @@ Silent f = reads f.serial ≡ false → (f.tx ≡ None) × (f.driven ≡ D.Float
 addressed_silent : (c : Bool) (f : Frame) (x : ℕ) (four_wire : Bool) → ltb x 128 ≡ c → reads f.serial ≡ false → Silent f → Silent (addressed f x four_wire)
 unfolding addressed reads
 addressed_silent true f x four_wire e r h = rw e (λ q. h r)
-addressed_silent false f x four_wire e r h = rw e (λ q. let z : ◌≡◌ {A = ℕ} 0 1 = cc in absurd (omega arith))
+addressed_silent false f x four_wire e r h = rw e (λ q. absurd (true≢false q))
 
 completed_silent : (s : Serial) (f : Frame) (x : ℕ) (four_wire : Bool) → f.serial ≡ s → Silent f → Silent (completed s f x four_wire).frame
 unfolding completed reads
 completed_silent S.Address f x four_wire e h = addressed_silent (ltb x 128) f x four_wire refl (ap (λ (s : Serial). reads s) e) h
-completed_silent (S.Read a) f x four_wire e h = λ q. let z : ◌≡◌ {A = ℕ} 0 1 = cc in absurd (omega arith)
+completed_silent (S.Read a) f x four_wire e h = λ q. absurd (true≢false q)
 completed_silent (S.Write a) f x four_wire e h = λ q. h (ap (λ (s : Serial). reads s) e)
 
 taken_silent : (c : Bool) (f : Frame) (mosi four_wire : Bool) → ltb f.rx_bits 7 ≡ c → Silent f → Silent (take_bit f mosi four_wire).frame
@@ -36,7 +37,7 @@ taken_silent false f mosi four_wire e h = rw e (completed_silent f.serial f (shi
 moved_silent : (s : Serial) (f : Frame) (t : Option ℕ) → f.serial ≡ s → Silent f → Silent (moved s f t)
 unfolding moved reads
 moved_silent S.Address f t e h = λ q. ((h q).0, refl)
-moved_silent (S.Read a) f t e h = λ q. let r = ap (λ (s : Serial). reads s) e in let z : ◌≡◌ {A = ℕ} 0 1 = cc in absurd (omega arith)
+moved_silent (S.Read a) f t e h = λ q. absurd (true≢false (sym (ap (λ (s : Serial). reads s) e) ∙ q))
 moved_silent (S.Write a) f t e h = λ q. ((h q).0, refl)
 
 output_silent : (shows : ℕ → Option ℕ) (f : Frame) (k : Shift) → Silent f → Silent (output shows f k)
