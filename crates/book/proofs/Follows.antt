@@ -1,5 +1,5 @@
 -- What is kept is what the accepted calls say, of every list; so the reports of a list follow on.
-use Rattle.std.specs.Prelude.{Some, None}
+use Rattle.std.specs.Prelude.{Option, Some, None}
 use Rattle.sensor.specs.Operation.{Operation}
 use Prim.Native.Nat.{ℕ}
 use mathlib.Core.Path.{◌≡◌, refl, sym, ap, ◌∙◌}
@@ -19,6 +19,7 @@ use Rattle.calls.proofs.Theorems.Found.{never}
 use Rattle.calls.proofs.Theorems.Exactly.{follows_on}
 use Rattle.calls.proofs.Theorems.Left.{accepted_is, refused_is}
 use Rattle.sensor.specs.declared.types.Kept.{Kept}
+use Rattle.sensor.specs.declared.types.Outage.{Outage}
 use Rattle.sensor.specs.declared.types.Sensor.{Sensor}
 use Rattle.sensor.specs.Record.{lines_kept}
 use Rattle.sensor.specs.Image.{new_kept}
@@ -31,7 +32,7 @@ use Rattle.book.specs.Lists.{accepts, step, Start, started, after, accepted, las
 use Rattle.book.specs.Follows.{timed_levels, call_levels, last_levels, both_high, lines, Follows}
 use Rattle.book.proofs.Keeps.{Core, core, then, select_core, sync_keeps, rise_synced_keeps, pins_synced_keeps, falling_keeps}
 use Rattle.book.proofs.Pins.{rising_keeps, pins_keeps}
-use Rattle.book.proofs.Parts.{off, ended, due_is, cut_to, supply_to, supply_is}
+use Rattle.book.proofs.Parts.{ended, due_is, cut_to, low_to, ok_to, supply_to, supply_is}
 
 -- ---- what is kept after one call
 
@@ -54,11 +55,18 @@ unfolding cut_to
 cut_kept None k now = refl
 cut_kept (Some w) k now = refl
 
+low_kept : (o : Option Outage) (k : Core) (zero : Bool) (now : Time) → (low_to o k zero now).kept ≡ k.kept
+unfolding low_to
+low_kept None k zero now = cut_kept k.writing k now
+low_kept (Some o) k zero now = either kept_of zero _ _ _ refl refl
+
+ok_kept : (o : Option Outage) (k : Core) → (ok_to o k).kept ≡ k.kept
+unfolding ok_to
+ok_kept None k = refl
+ok_kept (Some o) k = either kept_of o.cold _ _ _ refl refl
+
 supply_kept : (k : Core) (rail : ℕ) (now : Time) → (supply_to k rail now).kept ≡ k.kept
-supply_kept k rail now =
-    either kept_of (ltb rail 2400) _ _ _
-    (either kept_of (off k) _ _ _ (either kept_of (eqb rail 0) _ _ _ refl refl) (cut_kept k.writing k now))
-    (either kept_of (off k) _ _ _ (either kept_of k.supply.cold _ _ _ refl refl) refl)
+supply_kept k rail now = either kept_of (ltb rail 2400) _ _ _ (low_kept k.outage k (eqb rail 0) now) (ok_kept k.outage k)
 
 timed_kept : (s : Sensor) (now : Time) (t : Timed) → (effect (sync_local_until s now false) now t).sensor.kept ≡ (timed_does now t).keeps s.kept
 unfolding effect timed_does

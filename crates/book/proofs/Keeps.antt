@@ -13,7 +13,7 @@ use Rattle.spi.specs.declared.types.Clocked.{Clocked}
 use Rattle.spi.specs.declared.types.Shift.{Shift}
 use Rattle.control.specs.declared.types.WriteKind.{WriteKind}
 use Rattle.sensor.specs.declared.types.Kept.{Kept}
-use Rattle.sensor.specs.declared.types.Supply.{Supply}
+use Rattle.sensor.specs.declared.types.Outage.{Outage}
 use Rattle.sensor.specs.declared.types.Sensor.{Sensor}
 use Rattle.deadlines.specs.Deadlines.{is_at}
 use Rattle.registers.specs.Map.{at}
@@ -36,15 +36,15 @@ use Rattle.effects.specs.Theorems.Keeps as E
 pub record Core : Type 0 where
   pub cells : List ℕ
   pub writing : Operation
-  pub supply : Supply
+  pub outage : Option Outage
   pub kept : Kept
   pub selected : Bool
 
 abbrev pub core : Sensor → Core
-core s = record { cells = s.nonvolatile; writing = s.writing; supply = s.supply; kept = s.kept; selected = s.frame.selected }
+core s = record { cells = s.nonvolatile; writing = s.writing; outage = s.outage; kept = s.kept; selected = s.frame.selected }
 
 abbrev part : C.Core → Core
-part k = record { cells = k.cells; writing = k.writing; supply = k.supply; kept = k.kept; selected = k.frame.selected }
+part k = record { cells = k.cells; writing = k.writing; outage = k.outage; kept = k.kept; selected = k.frame.selected }
 
 -- t has them of s. A record, so that s and t are inferred from it
 pub record Keeps (s t : Sensor) : Type 0 where

@@ -9,16 +9,17 @@ use lib.Dec.{ltb, eqb}
 use borrow.Author.Tests.{leb-true, le-ltb}
 use Rattle.time.specs.declared.Time.{Time}
 use Rattle.time.specs.Time.{ticks}
-use Rattle.deadlines.specs.Deadlines.{is_set}
 use Rattle.sensor.specs.declared.types.Kept.{Kept}
 use Rattle.calls.specs.declared.types.Timed.TheVariants as Timed
 use Rattle.calls.specs.declared.types.Call.{Call}
 use Rattle.bma150.specs.declared.host.Bma150.{Bma150}
+use Rattle.std.specs.Prelude.{Option, Some, None}
+use Rattle.sensor.specs.declared.types.Outage.{Outage}
 use Rattle.sensor.specs.declared.types.Sensor.{Sensor}
-use Rattle.sensor.specs.Record.{is_off}
+use Rattle.sensor.specs.Record.{away, cold_of, is_cold}
 use Rattle.samples.specs.Samples.{sync_local_until}
 use Rattle.sensor.specs.Image.{image_at, powered}
-use Rattle.waits.specs.Supply.{without_report, supply_low, supply_ok, returned, cold_return, warm_return, set_supply}
+use Rattle.waits.specs.Supply.{without_report, supply_low, supply_ok, returned, set_supply}
 use Rattle.calls.specs.Facts.{timed_facts, facts}
 use Rattle.calls.specs.Table as T
 use Rattle.calls.proofs.Theorems.Left.{accepted_is, refused_is}
@@ -29,7 +30,6 @@ use Rattle.book.specs.Lists as L
 use Rattle.book.specs.Book.{Book, book, with_rest, struck, opened, changed, entered, booked}
 use Rattle.book.specs.Claim.{ending, left, stored_bytes, Claim}
 use Rattle.book.proofs.Keeps.{Core, core, sync_keeps}
-use Rattle.book.proofs.Parts.{off}
 use Rattle.book.proofs.Sound.{running_of, read, filled_read, Sound, timely}
 use Rattle.book.proofs.Steps.{Moved, moved}
 
@@ -39,7 +39,7 @@ use Rattle.book.proofs.Steps.{Moved, moved}
 pub record Stepped (s : Bma150) (c : Call) : Type 0 where
   pub sound : Sound (core (step s c).sensor)
   pub entered : entered (read s) c ≡ read (step s c)
-  pub zero : (cs : List Call) → met_zero s.sensor.supply.cold (cond (accepts s c) (c ∷ cs) cs) ≡ met_zero (step s c).sensor.supply.cold cs
+  pub zero : (cs : List Call) → met_zero (is_cold s.sensor) (cond (accepts s c) (c ∷ cs) cs) ≡ met_zero (is_cold (step s c).sensor) cs
   pub kept : (cs : List Call) → last_kept s.sensor.kept (cond (accepts s c) (c ∷ cs) cs) ≡ last_kept (step s c).sensor.kept cs
 
 pub stepped : (s : Bma150) → Sound (core s.sensor) → (c : Call) → Fits c → Stepped s c
@@ -63,7 +63,7 @@ stepped s h c d = go (accepts s c) refl
         record {
           sound = subst (λ (x : Bma150). Sound (core x.sensor)) (sym e) h;
           entered = asked ∙ ap (λ (b : Bool). cond b (with_rest (changed (read s) s.sensor c) (struck (step s c))) (read s)) p ∙ ap read (sym e);
-          zero = λ cs. rw p (ap (λ (x : Bma150). met_zero x.sensor.supply.cold cs) (sym e));
+          zero = λ cs. rw p (ap (λ (x : Bma150). met_zero (is_cold x.sensor) cs) (sym e));
           kept = λ cs. rw p (ap (λ (x : Bma150). last_kept x.sensor.kept cs) (sym e));
         }
 
@@ -72,7 +72,7 @@ stepped s h c d = go (accepts s c) refl
 pub record Ran (s : Bma150) (cs : List Call) : Type 0 where
   pub sound : Sound (core (after s cs).sensor)
   pub booked : booked (read s) cs ≡ read (after s cs)
-  pub zero : met_zero s.sensor.supply.cold (accepted s cs) ≡ (after s cs).sensor.supply.cold
+  pub zero : met_zero (is_cold s.sensor) (accepted s cs) ≡ is_cold (after s cs).sensor
   pub kept : last_kept s.sensor.kept (accepted s cs) ≡ (after s cs).sensor.kept
 
 ran : (s : Bma150) → Sound (core s.sensor) → (cs : List Call) → Fractions cs → Ran s cs
@@ -105,8 +105,8 @@ unfolding after_start
 start_is b p = accepted_is _ _ _ (ap (λ (n : ℕ). eqb n 0) p)
 
 pub start_sound : (b : Start) → start_number b.by b.time b.image ≡ 0 → Sound (core (L.started b).sensor)
-unfolding is_set
-start_sound b p = subst (λ (x : Bma150). Sound (core x.sensor)) (sym (start_is b p)) (record { fine = tt; warm = λ e. refl; deaf = λ e. refl })
+unfolding away
+start_sound b p = subst (λ (x : Bma150). Sound (core x.sensor)) (sym (start_is b p)) (record { fine = tt; deaf = λ e. refl })
 
 pub start_book : (b : Start) → start_number b.by b.time b.image ≡ 0 → opened b ≡ read (L.started b)
 unfolding running_of
@@ -124,17 +124,16 @@ book_follows b p cs d = ap (λ (k : Book). booked k cs) (start_book b p) ∙ (ra
 abbrev fresh : Time → List ℕ → Kept → Bma150
 fresh now cells k = record { sensor = powered now cells k; last = now }
 
-returns_cold : (u : Sensor) (rail : ℕ) (now : Time) → ltb rail 2400 ≡ false → is_off u ≡ true → u.supply.cold ≡ true
+returns_cold : (u : Sensor) (rail : ℕ) (now : Time) → ltb rail 2400 ≡ false → is_cold u ≡ true
     → (set_supply u rail now).sensor ≡ powered now u.nonvolatile u.kept
-unfolding set_supply supply_ok returned
-returns_cold u rail now p q r = go (ltb rail 2400) (is_off u) u.supply.cold p q r
+unfolding set_supply supply_ok returned cold_of
+returns_cold u rail now = go (ltb rail 2400) u.outage
   where
-    go : (low out cold : Bool) → low ≡ false → out ≡ true → cold ≡ true
-        → (cond low (supply_low u (eqb rail 0) now) (without_report (cond out (cond cold (cold_return u now) (warm_return u now)) u))).sensor ≡ powered now u.nonvolatile u.kept
-    go true out cold x y z = absurd (let w : ◌≡◌ {A = ℕ} 0 1 = cc in omega arith)
-    go false true true x y z = refl
-    go false true false x y z = absurd (let w : ◌≡◌ {A = ℕ} 0 1 = cc in omega arith)
-    go false false cold x y z = absurd (let w : ◌≡◌ {A = ℕ} 0 1 = cc in omega arith)
+    go : (low : Bool) (o : Option Outage) → low ≡ false → cold_of o ≡ true
+        → (cond low (supply_low o u (eqb rail 0) now) (without_report (supply_ok o u now))).sensor ≡ powered now u.nonvolatile u.kept
+    go true o x y = absurd (let w : ◌≡◌ {A = ℕ} 0 1 = cc in omega arith)
+    go false None x y = absurd (let w : ◌≡◌ {A = ℕ} 0 1 = cc in omega arith)
+    go false (Some o) x y = rw y
 
 -- the stored-image call at that time hands out the bytes
 hands_out : (now : Time) (cells : List ℕ) (k : Kept) → T.late now ≡ false → (called (fresh now cells k) (Call.StoredImage now 19)).adds ≡ Added.put cells
@@ -157,16 +156,10 @@ module _ (b : Start) (cs : List Call) (now : Time) (rail : ℕ) (h : Returns b c
   run : Ran (L.started b) cs
   run = ran (L.started b) (start_sound b h.start_accepted) cs h.fractions
 
-  -- it met 0 mV, so it is off and cold
-  is_cold : before.sensor.supply.cold ≡ true
-  is_cold = sym run.zero ∙ ap (λ (x : Bma150). met_zero x.sensor.supply.cold (accepted (L.started b) cs)) (start_is b h.start_accepted) ∙ h.from_zero
-
-  without_supply : is_off before.sensor ≡ true
-  without_supply = go (is_off before.sensor) refl
-    where
-      go : (o : Bool) → is_off before.sensor ≡ o → o ≡ true
-      go true e = refl
-      go false e = let f : before.sensor.supply.cold ≡ false = run.sound.warm e in let g = is_cold in cc
+  -- it met 0 mV while the supply is away
+  met : is_cold before.sensor ≡ true
+  unfolding cold_of
+  met = sym run.zero ∙ ap (λ (x : Bma150). met_zero (is_cold x.sensor) (accepted (L.started b) cs)) (start_is b h.start_accepted) ∙ h.from_zero
 
   before_keeps : core (sync_local_until before.sensor now false) ≡ core before.sensor
   before_keeps = (sync_keeps before.sensor now false).same
@@ -179,8 +172,7 @@ module _ (b : Start) (cs : List Call) (now : Time) (rail : ℕ) (h : Returns b c
       ∙ ap {B = Bma150} (λ (x : Sensor). record { sensor = x; last = now })
       (returns_cold (sync_local_until before.sensor now false) rail now
       (le-ltb rail 2400 (leb-true 2400 rail h.with_supply))
-      (ap (λ (k : Core). off k) before_keeps ∙ without_supply)
-      (ap (λ (k : Core). k.supply.cold) before_keeps ∙ is_cold)
+      (ap (λ (k : Core). cold_of k.outage) before_keeps ∙ met)
       ∙ ap (λ (k : Core). powered now k.cells k.kept) before_keeps)
 
   early : T.late now ≡ false

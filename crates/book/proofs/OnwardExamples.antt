@@ -18,6 +18,7 @@ use Rattle.control.specs.Lengths.{acquisition_delay}
 use Rattle.sampling.specs.Phase as SP
 use Rattle.sampling.specs.Stage as ST
 use Rattle.sensor.specs.Image.{stock}
+use Rattle.sensor.specs.Record as BR
 use Rattle.sensor.specs.Select as BL
 use Rattle.sensor.specs.Mode as BC
 use Rattle.samples.specs.Samples as BS
@@ -56,7 +57,7 @@ pub record Pushed : Type 0 where
   pub y_moved : lost.sensor.sampling.analog.y.at ≡ lost.last
 
 pub push_and_cut : Pushed
-unfolding after accepted C.after_start C.effect C.leaves T.unless_refused T.reserved T.turned_down T.start_refusal T.refusal T.first_found T.wrong_length T.beyond T.any_beyond T.out_of_range T.jumps T.late T.too_late T.goes_back T.due_by T.before_due T.due_at T.beside_due TF.timed_facts TF.facts DD.is_set DD.is_at DD.is_by DD.sooner DD.first DD.earliest BS.samples_run BS.next_sample BS.write_end BS.sample_due BS.next_deadline BS.samples_on_demand BS.sync_local_until BU.turned BU.cut BU.supply_low BU.set_supply ST.turned ST.held A.all_turned A.turned A.held BL.selected_to BL.may_select SF.differs
+unfolding after accepted C.after_start C.effect C.leaves T.unless_refused T.reserved T.turned_down T.start_refusal T.refusal T.first_found T.wrong_length T.beyond T.any_beyond T.out_of_range T.jumps T.late T.too_late T.goes_back T.due_by T.before_due T.due_at T.beside_due TF.timed_facts TF.facts DD.is_set BR.away DD.is_at DD.is_by DD.sooner DD.first DD.earliest BS.samples_run BS.next_sample BS.write_end BS.sample_due BS.next_deadline BS.samples_on_demand BS.sync_local_until BU.turned BU.cut BU.supply_low BU.set_supply ST.turned ST.held A.all_turned A.turned A.held BL.selected_to BL.may_select SF.differs
 push_and_cut =
     record {
       both_accepted = refl;
@@ -82,5 +83,5 @@ pub record Sampled : Type 0 where
   pub z_at_edge : (after (started stock_start) sampled).sensor.sampling.analog.z.at ≡ edge wake 8
 
 pub sampled_at_edges : Sampled
-unfolding after accepted C.after_start C.effect C.leaves T.unless_refused T.reserved T.turned_down T.start_refusal T.refusal T.first_found T.wrong_length T.beyond T.any_beyond T.out_of_range T.jumps T.late T.too_late T.goes_back T.due_by T.before_due T.due_at T.beside_due TF.timed_facts TF.facts DD.is_set DD.is_at DD.is_by DD.sooner DD.first DD.earliest BS.samples_run BS.next_sample BS.write_end BS.sample_due BS.next_deadline BS.samples_on_demand BS.sync_local_until BS.caught_up BS.limit DD.unless_at BD.pause_ended BD.write_ended BD.image_ended BD.wake_ended BD.sample_ended BC.automatic_control BE.fall_synced BE.falling_effect BE.spi_listens BE.moved SF.shifts SF.moves SF.fetches SF.moved LI.iterate A.axis_of A.with_axis SP.scanned SP.observing SP.observed SP.test_counted SP.axis_phase SP.sample_phase SP.ticks_now SP.ticked SP.sample
+unfolding after accepted C.after_start C.effect C.leaves T.unless_refused T.reserved T.turned_down T.start_refusal T.refusal T.first_found T.wrong_length T.beyond T.any_beyond T.out_of_range T.jumps T.late T.too_late T.goes_back T.due_by T.before_due T.due_at T.beside_due TF.timed_facts TF.facts DD.is_set BR.away DD.is_at DD.is_by DD.sooner DD.first DD.earliest BS.samples_run BS.next_sample BS.write_end BS.sample_due BS.next_deadline BS.samples_on_demand BS.sync_local_until BS.caught_up BS.limit DD.unless_at BD.pause_ended BD.write_ended BD.image_ended BD.wake_ended BD.sample_ended BC.automatic_control BE.fall_synced BE.falling_effect BE.spi_listens BE.moved SF.shifts SF.moves SF.fetches SF.moved LI.iterate A.axis_of A.with_axis SP.scanned SP.observing SP.observed SP.test_counted SP.axis_phase SP.sample_phase SP.ticks_now SP.ticked SP.sample
 sampled_at_edges = record { both_accepted = refl; z_at_edge = advanced_at _ (edge wake 8) _ }

@@ -64,7 +64,7 @@ runs_running (Some w) = refl
 pub filled_read : (s : Bma150) → filled (read s) ≡ s
 filled_read s = ap (λ (o : Operation). record { sensor = with_writing s.sensor (o); last = s.last }) (operation_running s.sensor.writing)
 
--- ---- what holds of every sensor of a list: a write runs only with supply and its end does not wrap; with supply nothing cold is due; without it SPI is deselected
+-- ---- what holds of every sensor of a list: a write runs only with supply and its end does not wrap; without it SPI is deselected
 
 abbrev end_of : StoredWrite → ℕ
 end_of w = ticks w.cycle.started + write_length
@@ -75,7 +75,6 @@ Fine (Some w) out = (out ≡ false) × (end_of w < 2 ^ 128)
 
 pub record Sound (k : Core) : Type 0 where
   pub fine : Fine k.writing (off k)
-  pub warm : off k ≡ false → k.supply.cold ≡ false
   pub deaf : off k ≡ true → k.selected ≡ false
 
 -- ---- next due is at or before the end of a running write

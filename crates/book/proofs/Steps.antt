@@ -18,14 +18,14 @@ use Rattle.i2c.specs.declared.types.Edge.{Edge}
 use Rattle.i2c.specs.Bus.{edge}
 use Rattle.i2c.specs.Engine as E
 use Rattle.spi.specs.Frame as F
-use Rattle.deadlines.specs.Deadlines.{is_set, is_at}
+use Rattle.deadlines.specs.Deadlines.{is_at}
 use Rattle.sensor.specs.declared.types.Kept.{Kept}
 use Rattle.calls.specs.declared.types.Timed.{Timed}
 use Rattle.calls.specs.declared.types.Call.{Call}
 use Rattle.bma150.specs.declared.host.Bma150.{Bma150}
 use Rattle.sensor.specs.declared.types.Sensor.{Sensor}
-use Rattle.sensor.specs.declared.types.Supply.{Supply}
-use Rattle.sensor.specs.Record.{lines_kept, is_off, serial_not_ready, is_quiet, is_writing, four_wire}
+use Rattle.sensor.specs.declared.types.Outage.{Outage}
+use Rattle.sensor.specs.Record.{lines_kept, away, cold_of, is_off, is_cold, serial_not_ready, is_quiet, is_writing, four_wire}
 use Rattle.sensor.specs.Record as Record
 use Rattle.sensor.specs.Image.{with_cell}
 use Rattle.samples.specs.Samples.{interaction_deadline}
@@ -41,7 +41,7 @@ use Rattle.book.specs.Book.{Book, book, struck, operation, closed, completing, c
 use Rattle.book.specs.Book as B
 use Rattle.book.proofs.Keeps.{Core, core, Keeps, then, select_core, sync_keeps, rise_synced_keeps, pins_synced_keeps, falling_keeps}
 use Rattle.book.proofs.Pins.{begun_writing, rising_keeps, pins_keeps}
-use Rattle.book.proofs.Parts.{over, off, ended, due_is, cut_to, lost, emptied, cold_again, warm_again, supply_to, supply_is}
+use Rattle.book.proofs.Parts.{over, off, ended, due_is, cut_to, low_to, ok_to, cold_again, warm_again, supply_to, supply_is}
 use Rattle.book.proofs.Sound.{running_of, read, running_operation, runs_running, Fine, Sound, not_over, over_now, end_fits, Timely, timely, due_now}
 
 -- a call that does d takes the five parts from k to l, and the book to m
@@ -49,7 +49,7 @@ pub record Moved (k l : Core) (d : Does) (m : Book) : Type 0 where
   pub cells : m.cells ≡ l.cells
   pub running : m.running ≡ running_of l.writing
   pub sound : Sound l
-  pub zero : zeroed k.supply.cold d.rail ≡ l.supply.cold
+  pub zero : zeroed (cold_of k.outage) d.rail ≡ cold_of l.outage
   pub kept : d.keeps k.kept ≡ l.kept
 
 abbrev with_running : Core → Operation → Core
@@ -77,8 +77,8 @@ module _ (b : Bma150) (h : Sound (core b.sensor)) where
       (record {
         cells = ap (λ (k : Book). k.cells) p;
         running = ap (λ (k : Book). k.running) p;
-        sound = record { fine = h.fine; warm = h.warm; deaf = h.deaf };
-        zero = ap (λ (o : Option ℕ). zeroed s.supply.cold o) r;
+        sound = record { fine = h.fine; deaf = h.deaf };
+        zero = ap (λ (o : Option ℕ). zeroed (is_cold s) o) r;
         kept = q;
       })
 
@@ -99,7 +99,7 @@ module _ (b : Bma150) (h : Sound (core b.sensor)) where
     cells : m.cells ≡ l.cells
     running : m.running ≡ running_of l.writing
     sound : Sound l
-    supply : l.supply ≡ s.supply
+    outage : l.outage ≡ s.outage
     kept : l.kept ≡ s.kept
 
   ended_moved : (now : Time) → is_at (interaction_deadline s) now ≡ true → Ended (ended s.writing (core s) now) (completed (read b) now)
@@ -107,14 +107,14 @@ module _ (b : Bma150) (h : Sound (core b.sensor)) where
   ended_moved now d = go s.writing refl
     where
       go : (op : Operation) → s.writing ≡ op → Ended (ended op (core s) now) (completing (running_of op) (read b) now)
-      go None e = record { cells = refl; running = refl; sound = h; supply = refl; kept = refl }
+      go None e = record { cells = refl; running = refl; sound = h; outage = refl; kept = refl }
       go (Some w) e =
           subst (λ (x : Bool). Ended (ended (Some w) (core s) now) (cond x (closed (read b) (record { address = w.address; wanted = w.value; began = w.cycle.started }) w.value) (read b)))
           (sym (over_now s h now d w e)) (chosen (same (Cycle.deadline w.cycle) now))
         where
           chosen : (x : Bool) → Ended (cond x (over (core s) (with_cell s.nonvolatile w.address w.value)) (core s)) (cond x (closed (read b) (record { address = w.address; wanted = w.value; began = w.cycle.started }) w.value) (read b))
-          chosen true = record { cells = refl; running = refl; sound = record { fine = tt; warm = h.warm; deaf = h.deaf }; supply = refl; kept = refl }
-          chosen false = record { cells = refl; running = refl; sound = h; supply = refl; kept = refl }
+          chosen true = record { cells = refl; running = refl; sound = record { fine = tt; deaf = h.deaf }; outage = refl; kept = refl }
+          chosen false = record { cells = refl; running = refl; sound = h; outage = refl; kept = refl }
 
   -- such parts, but for what is kept, of a call that brings no supply
   keeping_moved : (l : Core) (d : Does) (m : Book) (x : Kept) → Ended l m → d.rail ≡ None → d.keeps s.kept ≡ x → Moved (core s) (keeping l x) d m
@@ -122,8 +122,8 @@ module _ (b : Bma150) (h : Sound (core b.sensor)) where
   keeping_moved l d m x r e f = record {
     cells = r.cells;
     running = r.running;
-    sound = record { fine = r.sound.fine; warm = r.sound.warm; deaf = r.sound.deaf };
-    zero = ap (λ (o : Option ℕ). zeroed s.supply.cold o) e ∙ ap (λ (x : Supply). x.cold) (sym r.supply);
+    sound = record { fine = r.sound.fine; deaf = r.sound.deaf };
+    zero = ap (λ (o : Option ℕ). zeroed (is_cold s) o) e ∙ ap (λ (x : Option Outage). cold_of x) (sym r.outage);
     kept = f;
   }
 
@@ -168,39 +168,39 @@ module _ (b : Bma150) (h : Sound (core b.sensor)) where
   uncut now o = ap (λ (x : Operation). cutting (running_of x) (read b) now) (idle o)
 
   supply_moved : (now : Time) (rail : ℕ) → Moved (core s) (supply_to (core s) rail now) (supplying now rail) (supplied (Some rail) (read b) now)
-  unfolding supplied zeroed is_set running_of
-  supply_moved now rail = go (ltb rail 2400) (high (ltb rail 2400) refl) (eqb rail 0) refl (is_off s) refl s.supply.cold refl
+  unfolding supplied zeroed away cold_of running_of low_to ok_to
+  supply_moved now rail = go (ltb rail 2400) (high (ltb rail 2400) refl) (eqb rail 0) refl s.outage refl
     where
       high : (b : Bool) → ltb rail 2400 ≡ b → leb 2400 rail ≡ not b
       high true e = lt-leb 2400 rail (ltb-true rail 2400 e)
       high false e = le-leb 2400 rail (ltb-false rail 2400 e)
 
-      met : (up zero cold : Bool) → leb 2400 rail ≡ up → eqb rail 0 ≡ zero → s.supply.cold ≡ cold → cond (leb 2400 rail) false (eqb rail 0 || s.supply.cold) ≡ cond up false (zero || cold)
-      met up zero cold p q r = rw (p, q, r) refl
+      out : (o : Outage) → s.outage ≡ Some o → is_off s ≡ true
+      out o e = ap (λ (x : Option Outage). away x) e
 
-      go : (low : Bool) → leb 2400 rail ≡ not low → (zero : Bool) → eqb rail 0 ≡ zero → (out : Bool) → is_off s ≡ out → (cold : Bool) → s.supply.cold ≡ cold
-          → Moved (core s)
-          (cond low (cond out (cond zero (emptied (core s)) (core s)) (lost (core s) now zero)) (cond out (cond cold (cold_again (core s)) (warm_again (core s))) (core s)))
-          (supplying now rail)
-          (cond low (cutting (running_of s.writing) (read b) now) (read b))
-      go true u true z true o cold c =
-          let p = uncut now o in
-          record { cells = ap (λ (k : Book). k.cells) p; running = ap (λ (k : Book). k.running) p; sound = record { fine = h.fine; warm = λ f. (let g : true ≡ false = sym o ∙ f in cc); deaf = h.deaf }; zero = met false true cold u z c; kept = refl }
-      go true u false z true o cold c =
-          let p = uncut now o in
-          record { cells = ap (λ (k : Book). k.cells) p; running = ap (λ (k : Book). k.running) p; sound = h; zero = met false false cold u z c ∙ sym c; kept = refl }
-      go true u true z false o cold c =
+      met : (up zero : Bool) (o : Option Outage) → leb 2400 rail ≡ up → eqb rail 0 ≡ zero → s.outage ≡ o → cond (leb 2400 rail) false (eqb rail 0 || is_cold s) ≡ cond up false (zero || cold_of o)
+      met up zero o p q r = rw (p, q, r) refl
+
+      go : (low : Bool) → leb 2400 rail ≡ not low → (zero : Bool) → eqb rail 0 ≡ zero → (o : Option Outage) → s.outage ≡ o
+          → Moved (core s) (cond low (low_to o (core s) zero now) (ok_to o (core s))) (supplying now rail) (cond low (cutting (running_of s.writing) (read b) now) (read b))
+      go true u true z (Some o) e =
+          let p = uncut now (out o e) in
+          record { cells = ap (λ (k : Book). k.cells) p; running = ap (λ (k : Book). k.running) p; sound = record { fine = subst (λ (x : Operation). Fine x true) (sym (idle (out o e))) tt; deaf = λ f. h.deaf (out o e) }; zero = met false true (Some o) u z e; kept = refl }
+      go true u false z (Some o) e =
+          let p = uncut now (out o e) in
+          record { cells = ap (λ (k : Book). k.cells) p; running = ap (λ (k : Book). k.running) p; sound = h; zero = met false false (Some o) u z e ∙ ap (λ (x : Option Outage). cold_of x) (sym e); kept = refl }
+      go true u true z None e =
           let r = cut_moved now in
-          record { cells = r.cells; running = r.running; sound = record { fine = subst (λ (x : Operation). Fine x true) (sym r.none_runs) tt; warm = λ f. (cc); deaf = λ f. refl }; zero = met false true cold u z c; kept = sym r.kept }
-      go true u false z false o cold c =
+          record { cells = r.cells; running = r.running; sound = record { fine = subst (λ (x : Operation). Fine x true) (sym r.none_runs) tt; deaf = λ f. refl }; zero = met false true None u z e; kept = sym r.kept }
+      go true u false z None e =
           let r = cut_moved now in
-          record { cells = r.cells; running = r.running; sound = record { fine = subst (λ (x : Operation). Fine x true) (sym r.none_runs) tt; warm = λ f. (cc); deaf = λ f. refl }; zero = met false false cold u z c ∙ (sym c ∙ h.warm o); kept = sym r.kept }
-      go false u zero z true o true c =
-          record { cells = refl; running = ap running_of (idle o); sound = record { fine = tt; warm = λ f. refl; deaf = λ f. refl }; zero = met true zero true u z c; kept = refl }
-      go false u zero z true o false c =
-          record { cells = refl; running = refl; sound = record { fine = subst (λ (x : Operation). Fine x false) (sym (idle o)) tt; warm = λ f. c; deaf = λ f. (cc) }; zero = met true zero false u z c ∙ sym c; kept = refl }
-      go false u zero z false o cold c =
-          record { cells = refl; running = refl; sound = h; zero = met true zero cold u z c ∙ sym (h.warm o); kept = refl }
+          record { cells = r.cells; running = r.running; sound = record { fine = subst (λ (x : Operation). Fine x true) (sym r.none_runs) tt; deaf = λ f. refl }; zero = met false false None u z e; kept = sym r.kept }
+      go false u zero z (Some o) e = back o.cold
+        where
+          back : (cold : Bool) → Moved (core s) (cond cold (cold_again (core s)) (warm_again (core s))) (supplying now rail) (read b)
+          back true = record { cells = refl; running = ap running_of (idle (out o e)); sound = record { fine = tt; deaf = λ f. refl }; zero = met true zero (Some o) u z e; kept = refl }
+          back false = record { cells = refl; running = refl; sound = record { fine = subst (λ (x : Operation). Fine x false) (sym (idle (out o e))) tt; deaf = λ f. (cc) }; zero = met true zero (Some o) u z e; kept = refl }
+      go false u zero z None e = record { cells = refl; running = refl; sound = h; zero = met true zero None u z e ∙ ap (λ (x : Option Outage). cold_of x) (sym e); kept = refl }
 
   moved_supply : (now : Time) (rail : ℕ) → Timely s now → Goes now (Timed.Supply rail)
   unfolding effect timed_does changed_at began accepted_write
@@ -230,8 +230,8 @@ module _ (b : Bma150) (h : Sound (core b.sensor)) where
       fine_of (Some (a, v)) e = (live a v e, end_fits now early small)
 
       chosen : (x : Bool) → Ended (with_running (core s) (cond x (operation (of_write w now)) u.writing)) (cond x (book s.nonvolatile (of_write w now) (struck b)) (read b))
-      chosen true = record { cells = refl; running = sym (running_operation (of_write w now)); sound = record { fine = fine_of w refl; warm = h.warm; deaf = h.deaf }; supply = refl; kept = refl }
-      chosen false = record { cells = refl; running = ap (λ (x : Operation). running_of x) (sym q); sound = record { fine = subst (λ (x : Operation). Fine x (is_off s)) (sym q) h.fine; warm = h.warm; deaf = h.deaf }; supply = refl; kept = refl }
+      chosen true = record { cells = refl; running = sym (running_operation (of_write w now)); sound = record { fine = fine_of w refl; deaf = h.deaf }; outage = refl; kept = refl }
+      chosen false = record { cells = refl; running = ap (λ (x : Operation). running_of x) (sym q); sound = record { fine = subst (λ (x : Operation). Fine x (is_off s)) (sym q) h.fine; deaf = h.deaf }; outage = refl; kept = refl }
 
   -- SPI writes only with supply, since it is deselected without
   spi_selected : (u : Sensor) (mosi : Bool) (a v : ℕ) → spi_write u mosi ≡ Some (a, v) → u.frame.selected ≡ true
@@ -299,10 +299,10 @@ module _ (b : Bma150) (h : Sound (core b.sensor)) where
   pub moved : (c : Call) → Fits c → accepts b c ≡ true → Moved (core s) (core (leaves b c).sensor) (does c) (changed (read b) s c)
   unfolding leaves does changed_at zeroed may_select
   moved (Call.At now t) d p = moved_timed now t d p
-  moved (Call.Temperature x) d p = record { cells = refl; running = refl; sound = record { fine = h.fine; warm = h.warm; deaf = h.deaf }; zero = refl; kept = refl }
+  moved (Call.Temperature x) d p = record { cells = refl; running = refl; sound = record { fine = h.fine; deaf = h.deaf }; zero = refl; kept = refl }
   moved (Call.Select on) d p =
       subst (λ (l : Core). Moved (core s) l (does (Call.Select on)) (read b)) (sym (select_core s (may_select s on)))
-      (record { cells = refl; running = refl; sound = record { fine = h.fine; warm = h.warm; deaf = deaf }; zero = refl; kept = refl })
+      (record { cells = refl; running = refl; sound = record { fine = h.fine; deaf = deaf }; zero = refl; kept = refl })
     where
       none_selected : (a out : Bool) → out ≡ true → (a && not out) ≡ false
       none_selected true true e = refl

@@ -6,14 +6,14 @@ use Rattle.i2c.specs.declared.types.State.{State}
 use Rattle.spi.specs.declared.types.Frame.{Frame}
 use Rattle.spi.specs.Frame as F
 use Rattle.sensor.specs.declared.types.Kept.{Kept}
-use Rattle.sensor.specs.declared.types.Supply.{Supply}
+use Rattle.sensor.specs.declared.types.Outage.{Outage}
 use Rattle.sensor.specs.declared.types.Sensor.{Sensor}
 
 -- the stored bytes and the running write, the supply, what is kept, the I2C engine, the SPI frame but for its driver (sleep releases it), and how long the pins are dead or quiet
 pub record Core : Type 0 where
   pub cells : List ℕ
   pub writing : Operation
-  pub supply : Supply
+  pub outage : Option Outage
   pub kept : Kept
   pub i2c : State
   pub frame : Frame
@@ -24,7 +24,7 @@ abbrev pub core : Sensor → Core
 core s = record {
   cells = s.nonvolatile;
   writing = s.writing;
-  supply = s.supply;
+  outage = s.outage;
   kept = s.kept;
   i2c = s.i2c;
   frame = F.released s.frame;

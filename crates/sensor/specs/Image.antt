@@ -98,7 +98,7 @@ blank now image kept = record {
   deadlines = acquiring now;
   writing = None;
   interrupts = I.new;
-  supply = record { unpowered_since = None; cold = false };
+  outage = None;
 }
 
 -- a start with these stored bytes (`from_nonvolatile`; with the stock image `new`)

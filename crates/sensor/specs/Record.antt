@@ -15,7 +15,7 @@ use Rattle.sampling.specs.declared.types.Sampling.{Sampling}
 use Rattle.sampling.specs.Phase as Phase
 use Rattle.registers.specs.declared.access.Gate.{Gate}
 use Rattle.registers.specs.Map.{at, control, operation, SPI4}
-use Rattle.sensor.specs.declared.types.Supply.{Supply}
+use Rattle.sensor.specs.declared.types.Outage.{Outage}
 use Rattle.sensor.specs.declared.types.Kept.{Kept}
 use Rattle.sensor.specs.declared.types.Sensor.{Sensor}
 
@@ -51,8 +51,8 @@ with_writing s x = record s { writing = x }
 abbrev pub with_interrupts : Sensor → Interrupts → Sensor
 with_interrupts s x = record s { interrupts = x }
 
-abbrev pub with_supply : Sensor → Supply → Sensor
-with_supply s x = record s { supply = x }
+abbrev pub with_outage : Sensor → Option Outage → Sensor
+with_outage s x = record s { outage = x }
 
 -- what is kept, with another acceleration and temperature
 abbrev pub with_input : Kept → Input → Kept
@@ -75,9 +75,23 @@ put s address value = with_registers s (with_byte s.registers address value)
 
 -- ---- short views
 
+-- the supply is away
+unfoldable pub away : Option Outage → Bool
+away None = false
+away (Some o) = true
+
+-- it met 0 mV while it is away
+unfoldable pub cold_of : Option Outage → Bool
+cold_of None = false
+cold_of (Some o) = o.cold
+
 -- without supply, below 2400 mV
 abbrev pub is_off : Sensor → Bool
-is_off s = is_set s.supply.unpowered_since
+is_off s = away s.outage
+
+-- without supply, and it met 0 mV (the Rust's `cold`)
+abbrev pub is_cold : Sensor → Bool
+is_cold s = cold_of s.outage
 
 -- the serial pins are dead after a return from 0 mV
 abbrev pub serial_not_ready : Sensor → Bool

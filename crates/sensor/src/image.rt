@@ -2,7 +2,7 @@
 ghost use Rattle.std.specs.Prelude.{◌≡◌};
 ghost use Rattle.sensor.specs.Image as Im;
 
-use crate::types::{Kept, Sensor, StoredWrite, Supply};
+use crate::types::{Kept, Sensor, StoredWrite};
 use analog::types::{Acceleration, Analog};
 use deadlines::{Deadlines, Wait};
 use filter::Filter;
@@ -138,10 +138,7 @@ fn blank(now: Time, image: [u8; 19], kept: Kept) -> Sensor
         deadlines: acquiring(now),
         writing: None,
         interrupts: Interrupts::new(),
-        supply: Supply {
-            unpowered_since: None,
-            cold: false,
-        },
+        outage: None,
     }
 }
 

@@ -41,11 +41,11 @@ impl Sensor {
         self
     }
 
-    #[tactic(auto, unfolding(deadlines::specs::Deadlines::is_set))]
+    #[tactic(auto, unfolding(crate::specs::Record::away))]
     pub fn is_off(self) -> bool
         ensures { result ≡ Rec.is_off self }
     {
-        self.supply.unpowered_since.is_some()
+        self.outage.is_some()
     }
 
     // This and the next two read one wait each: a function over `Wait` would match it back to its field, and say no more.

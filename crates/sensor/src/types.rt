@@ -8,10 +8,10 @@ use sampling::types::{Input, Sampling};
 use spi::types::Frame;
 use time::Time;
 
-// Since when the supply is below 2400 mV, and whether it met 0 mV.
+// The supply is below 2400 mV: since when, and whether it met 0 mV (the Rust's `unpowered_since` and `cold`).
 #[derive(Clone, Copy)]
-pub struct Supply {
-    pub unpowered_since: Option<Time>,
+pub struct Outage {
+    pub since: Time,
     pub cold: bool,
 }
 
@@ -31,7 +31,7 @@ pub struct StoredWrite {
     pub value: u8,
 }
 
-// `writing` is the stored write that runs, if one does (the Rust's `nv_operation`).
+// `writing` is the stored write that runs, if one does (the Rust's `nv_operation`); `outage` is there while the supply is away.
 #[derive(Clone, Copy)]
 pub struct Sensor {
     pub registers: [u8; 62],
@@ -44,7 +44,7 @@ pub struct Sensor {
     pub deadlines: Deadlines,
     pub writing: Option<StoredWrite>,
     pub interrupts: Interrupts,
-    pub supply: Supply,
+    pub outage: Option<Outage>,
 }
 
 // Whether the value of an acceleration is the mean of a full window or a single code.

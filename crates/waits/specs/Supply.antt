@@ -3,7 +3,6 @@ use Rattle.sensor.specs.Operation.{Operation}
 use Rattle.std.specs.Prelude.{ℕ, Bool, true, false, ltb, eqb, ℤ, if◌then◌else◌, Option, Some, None}
 use Rattle.laws.specs.Notation.{Byte, Address}
 use Rattle.time.specs.declared.Time.{Time}
-use Rattle.time.specs.declared.Duration.{Duration}
 use Rattle.time.specs.Time.{since, from_millis}
 use Rattle.analog.specs.Axis.{Acceleration}
 use Rattle.i2c.specs.Engine as E
@@ -12,8 +11,9 @@ use Rattle.sampling.specs.declared.types.Sampling.{Sampling}
 use Rattle.sampling.specs.Stage as Stage
 use Rattle.waits.specs.declared.types.Report.{Report}
 use Rattle.waits.specs.declared.types.Served.{Served}
+use Rattle.sensor.specs.declared.types.Outage.{Outage}
 use Rattle.sensor.specs.declared.types.Sensor.{Sensor}
-use Rattle.sensor.specs.Record.{with_nonvolatile, with_i2c, with_sampling, with_kept, with_input, with_deadlines, with_writing, with_supply, is_off}
+use Rattle.sensor.specs.Record.{with_nonvolatile, with_i2c, with_sampling, with_kept, with_input, with_deadlines, with_writing, with_outage, is_off}
 use Rattle.sensor.specs.Image.{byte_at, with_cell, power_on}
 use Rattle.sensor.specs.Mode.{start_acquisition}
 use Rattle.sensor.specs.Select.{set_selected}
@@ -39,7 +39,7 @@ cut (Some w) s now =
 abbrev pub off : Sensor → (now : Time) (cold : Bool) → Sensor
 off s now cold =
     let t = set_selected s false in
-    with_supply (with_i2c t (E.aborted t.i2c)) (record { unpowered_since = Some now; cold = cold })
+    with_outage (with_i2c t (E.aborted t.i2c)) (Some (record { since = now; cold = cold }))
 
 -- awake, the stage is brought up to now first
 abbrev pub held : Sensor → (now : Time) → Sensor
@@ -52,43 +52,37 @@ power_off s now cold =
     record { sensor = off c.sensor now cold; report = c.report }
 
 -- while off only 0 mV matters
-unfoldable pub zero_while_off : Sensor → (zero_volt : Bool) → Sensor
-zero_while_off s zero_volt = if zero_volt then with_supply s (record { unpowered_since = s.supply.unpowered_since; cold = true }) else s
+unfoldable pub zero_while_off : Sensor → Outage → (zero_volt : Bool) → Sensor
+zero_while_off s o zero_volt = if zero_volt then with_outage s (Some (record o { cold = true })) else s
 
 -- ---- return of supply
-
--- the length without supply
-unfoldable pub outage : Option Time → (now : Time) → Duration
-outage None now = since now now
-outage (Some t) now = since now t
 
 -- a sensor that was awake acquires anew, ready after 1 ms
 unfoldable pub reacquired : Sensor → (now : Time) → Sensor
 reacquired s now = if s.sampling.asleep then s else start_acquisition s now (from_millis 1)
 
--- 01: otherwise it returns warm, registers kept; that the waits are shifted is the Rust's rule
-abbrev pub warm_return : Sensor → (now : Time) → Sensor
-warm_return s now =
-    reacquired
-    (with_supply (with_deadlines s (shifted s.deadlines (outage s.supply.unpowered_since now))) (record { unpowered_since = None; cold = s.supply.cold }))
-    now
+-- 01: otherwise it returns warm, registers kept; that the waits are shifted by the length without supply is the Rust's rule
+abbrev pub warm_return : Sensor → (lost : Time) (now : Time) → Sensor
+warm_return s lost now = reacquired (with_outage (with_deadlines s (shifted s.deadlines (since now lost))) None) now
 
 abbrev pub cold_return : Sensor → (now : Time) → Sensor
 cold_return s now = power_on s now
 
-unfoldable pub returned : Sensor → (now : Time) → Sensor
-returned s now = if s.supply.cold then cold_return s now else warm_return s now
+unfoldable pub returned : Sensor → Outage → (now : Time) → Sensor
+returned s o now = if o.cold then cold_return s now else warm_return s o.since now
 
 -- ---- 01: below 2400 mV the sensor is off (`set_supply`)
 
-unfoldable pub supply_low : Sensor → (zero_volt : Bool) (now : Time) → Served
-supply_low s zero_volt now = if is_off s then without_report (zero_while_off s zero_volt) else power_off s now zero_volt
+unfoldable pub supply_low : Option Outage → Sensor → (zero_volt : Bool) (now : Time) → Served
+supply_low None s zero_volt now = power_off s now zero_volt
+supply_low (Some o) s zero_volt now = without_report (zero_while_off s o zero_volt)
 
-unfoldable pub supply_ok : Sensor → (now : Time) → Sensor
-supply_ok s now = if is_off s then returned s now else s
+unfoldable pub supply_ok : Option Outage → Sensor → (now : Time) → Sensor
+supply_ok None s now = s
+supply_ok (Some o) s now = returned s o now
 
 unfoldable pub set_supply : Sensor → (rail : ℕ) (now : Time) → Served
-set_supply s rail now = if ltb rail 2400 then supply_low s (eqb rail 0) now else without_report (supply_ok s now)
+set_supply s rail now = if ltb rail 2400 then supply_low s.outage s (eqb rail 0) now else without_report (supply_ok s.outage s now)
 
 -- ---- inputs
 

@@ -6,15 +6,8 @@ use crate::types::{Report, Served};
 use analog::types::Acceleration;
 use sampling::types::Sampling;
 use sensor::image::with_cell;
-use sensor::types::{Sensor, Supply};
+use sensor::types::{Outage, Sensor};
 use time::{Duration, Time};
-
-#[tactic(auto, unfolding(crate::specs::Supply::outage))]
-fn outage(since: Option<Time>, now: Time) -> Duration
-    ensures { result ≡ Sup.outage since now }
-{
-    now.since(since.unwrap_or(now))
-}
 
 pub fn without_report(sensor: Sensor) -> Served
     ensures { result ≡ Sup.without_report sensor }
@@ -56,10 +49,7 @@ fn off(sensor: Sensor, now: Time, cold: bool) -> Sensor
 {
     let mut s = sensor.set_selected(false);
     s.i2c = s.i2c.abort();
-    s.supply = Supply {
-        unpowered_since: Some(now),
-        cold,
-    };
+    s.outage = Some(Outage { since: now, cold });
     s
 }
 
@@ -81,11 +71,14 @@ fn power_off(sensor: Sensor, now: Time, cold: bool) -> Served
 }
 
 #[tactic(auto, unfolding(crate::specs::Supply::zero_while_off))]
-fn zero_while_off(mut sensor: Sensor, zero_volt: bool) -> Sensor
-    ensures { result ≡ Sup.zero_while_off sensor zero_volt }
+fn zero_while_off(mut sensor: Sensor, outage: Outage, zero_volt: bool) -> Sensor
+    ensures { result ≡ Sup.zero_while_off sensor outage zero_volt }
 {
     if zero_volt {
-        sensor.supply.cold = true;
+        sensor.outage = Some(Outage {
+            cold: true,
+            ..outage
+        });
     }
     sensor
 }
@@ -100,43 +93,42 @@ fn reacquired(sensor: Sensor, now: Time) -> Sensor
     sensor.start_acquisition(now, Duration::from_millis(1))
 }
 
-fn warm_return(mut sensor: Sensor, now: Time) -> Sensor
-    ensures { result ≡ Sup.warm_return sensor now }
+fn warm_return(mut sensor: Sensor, since: Time, now: Time) -> Sensor
+    ensures { result ≡ Sup.warm_return sensor since now }
 {
-    let length = outage(sensor.supply.unpowered_since, now);
-    sensor.deadlines = sensor.deadlines.shifted(length);
-    sensor.supply.unpowered_since = None;
+    sensor.deadlines = sensor.deadlines.shifted(now.since(since));
+    sensor.outage = None;
     reacquired(sensor, now)
 }
 
 #[tactic(auto, unfolding(crate::specs::Supply::returned))]
-fn returned(sensor: Sensor, now: Time) -> Sensor
-    ensures { result ≡ Sup.returned sensor now }
+fn returned(sensor: Sensor, outage: Outage, now: Time) -> Sensor
+    ensures { result ≡ Sup.returned sensor outage now }
 {
-    if sensor.supply.cold {
+    if outage.cold {
         return sensor.power_on(now);
     }
-    warm_return(sensor, now)
+    warm_return(sensor, outage.since, now)
 }
 
 #[tactic(auto, unfolding(crate::specs::Supply::supply_low))]
 fn supply_low(sensor: Sensor, zero_volt: bool, now: Time) -> Served
-    ensures { result ≡ Sup.supply_low sensor zero_volt now }
+    ensures { result ≡ Sup.supply_low sensor.outage sensor zero_volt now }
 {
-    if sensor.is_off() {
-        return without_report(zero_while_off(sensor, zero_volt));
+    match sensor.outage {
+        Some(outage) => without_report(zero_while_off(sensor, outage, zero_volt)),
+        None => power_off(sensor, now, zero_volt),
     }
-    power_off(sensor, now, zero_volt)
 }
 
 #[tactic(auto, unfolding(crate::specs::Supply::supply_ok))]
 fn supply_ok(sensor: Sensor, now: Time) -> Sensor
-    ensures { result ≡ Sup.supply_ok sensor now }
+    ensures { result ≡ Sup.supply_ok sensor.outage sensor now }
 {
-    if sensor.is_off() {
-        return returned(sensor, now);
+    match sensor.outage {
+        Some(outage) => returned(sensor, outage, now),
+        None => sensor,
     }
-    sensor
 }
 
 #[tactic(auto, unfolding(crate::specs::Supply::set_supply))]

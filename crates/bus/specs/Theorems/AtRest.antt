@@ -25,6 +25,7 @@ use Rattle.control.specs.declared.types.WriteKind.{WriteKind}
 use Rattle.calls.specs.declared.types.Timed.{Timed}
 use Rattle.calls.specs.declared.types.Call.{Call}
 use Rattle.calls.specs.Table.{unless_refused}
+use Rattle.sensor.specs.declared.types.Outage.{Outage}
 use Rattle.sensor.specs.declared.types.Sensor.{Sensor}
 use Rattle.sensor.specs.Record.{with_frame, with_i2c, is_off, serial_not_ready, is_quiet, four_wire}
 use Rattle.sensor.specs.Mode.{criterion, soft_reset}
@@ -34,7 +35,7 @@ use Rattle.samples.specs.Samples.{sync_local_until}
 use Rattle.writes.specs.Write.{register_effect, write_effect, write_kind}
 use Rattle.serial.specs.SpiEdges as E
 use Rattle.serial.specs.I2cPins.{i2c_listens, ones_for, launched, acted, i2c_pins, pins_synced}
-use Rattle.waits.specs.Supply.{without_report, cut, held, power_off, cold_return, zero_while_off, warm_return, returned, supply_low, supply_ok, set_supply}
+use Rattle.waits.specs.Supply.{without_report, cut, held, cold_return, zero_while_off, warm_return, returned, supply_low, supply_ok, set_supply}
 use Rattle.waits.specs.Due.{completed, waits_ended, pause_ended, write_ended, hold_ends_now, at_deadline}
 use Rattle.bma150.specs.declared.host.Bma150.{Bma150}
 use Rattle.bma150.specs.Called.{start_number, started, after_start, effect, leaves}
@@ -209,31 +210,32 @@ unfolding cut
 cut_alike None s now = record { selected = refl; serial = refl }
 cut_alike (Some w) s now = record { selected = refl; serial = refl }
 
-low_rests : (s : Sensor) (zero : Bool) (now : Time) → Rested s.frame → Rested (supply_low s zero now).sensor.frame
+low_rests : (o : Option Outage) (s : Sensor) (zero : Bool) (now : Time) → Rested s.frame → Rested (supply_low o s zero now).sensor.frame
 unfolding supply_low zero_while_off
-low_rests s zero now h = by (is_off s) zero
-  where
-    by : (b z : Bool) → Rested (cond b (without_report (zero_while_off s z)) (power_off s now z)).sensor.frame
-    by true true = h
-    by true false = h
-    by false z = selected_to_rests (cut s.writing (held s now) now).sensor _ (rested (cut_alike s.writing (held s now) now) h)
+low_rests None s zero now h = selected_to_rests (cut s.writing (held s now) now).sensor _ (rested (cut_alike s.writing (held s now) now) h)
+low_rests (Some o) s true now h = h
+low_rests (Some o) s false now h = h
 
-returned_rests : (s : Sensor) (now : Time) → Rested s.frame → Rested (returned s now).frame
+returned_rests : (s : Sensor) (o : Outage) (now : Time) → Rested s.frame → Rested (returned s o now).frame
 unfolding returned
-returned_rests s now h = by s.supply.cold
+returned_rests s o now h = by o.cold
   where
-    by : (b : Bool) → Rested (cond b (cold_return s now) (warm_return s now)).frame
+    by : (b : Bool) → Rested (cond b (cold_return s now) (warm_return s o.since now)).frame
     by true = fresh_rests false
     by false = rested (kept (K.waits_served_keeps _ now)) h
 
+ok_rests : (o : Option Outage) (s : Sensor) (now : Time) → Rested s.frame → Rested (supply_ok o s now).frame
+unfolding supply_ok
+ok_rests None s now h = h
+ok_rests (Some o) s now h = returned_rests s o now h
+
 supply_rests : (s : Sensor) (rail : ℕ) (now : Time) → Rested s.frame → Rested (set_supply s rail now).sensor.frame
-unfolding set_supply supply_ok
-supply_rests s rail now h = by (ltb rail 2400) (is_off s)
+unfolding set_supply
+supply_rests s rail now h = by (ltb rail 2400)
   where
-    by : (b z : Bool) → Rested (cond b (supply_low s (eqb rail 0) now) (without_report (cond z (returned s now) s))).sensor.frame
-    by true z = low_rests s (eqb rail 0) now h
-    by false true = returned_rests s now h
-    by false false = h
+    by : (b : Bool) → Rested (cond b (supply_low s.outage s (eqb rail 0) now) (without_report (supply_ok s.outage s now))).sensor.frame
+    by true = low_rests s.outage s (eqb rail 0) now h
+    by false = ok_rests s.outage s now h
 
 over_alike : (o : Operation) (s : Sensor) (now : Time) → Alike s.frame (write_ended o s now).sensor.frame
 unfolding write_ended

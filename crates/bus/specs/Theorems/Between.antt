@@ -1,6 +1,7 @@
 -- What calls other than reports leave of the bus, for a sensor that hears it before and after.
 use Rattle.sensor.specs.Operation.{Operation}
-use Rattle.std.specs.Prelude.{ℕ, ◌≡◌, refl, Bool, true, false, cond, not, ◌&&◌, ltb, ℤ, Option, Some, None}
+use Rattle.std.specs.Prelude.{ℕ, ◌≡◌, refl, Bool, true, false, cond, not, ◌&&◌, ltb, eqb, ℤ, Option, Some, None}
+use Rattle.std.proofs.Math.Path.{ap}
 use Rattle.time.specs.declared.Time.{Time}
 use Rattle.time.specs.Time.{same}
 use Rattle.analog.specs.Axis.{Acceleration}
@@ -8,9 +9,10 @@ use Rattle.nv.specs.Cycle as Cycle
 use Rattle.spi.specs.declared.types.Clocked.TheVariants as Clocked
 use Rattle.spi.specs.declared.types.Serial.TheVariants as Serial
 use Rattle.spi.specs.Frame as F
-use Rattle.deadlines.specs.Deadlines.{is_set, is_at, unless_at}
+use Rattle.deadlines.specs.Deadlines.{is_at, unless_at}
+use Rattle.sensor.specs.declared.types.Outage.{Outage}
 use Rattle.sensor.specs.declared.types.Sensor.{Sensor}
-use Rattle.sensor.specs.Record.{is_off, serial_not_ready, four_wire}
+use Rattle.sensor.specs.Record.{away, is_off, serial_not_ready, four_wire}
 use Rattle.sensor.specs.Mode.{criterion}
 use Rattle.sensor.specs.Select.{selected_to, may_select, set_selected}
 use Rattle.serial.specs.SpiEdges.{moved, shift_output, spi_listens, rise_synced, fall_synced, rising_effect, falling_effect, rising_at, falling_at}
@@ -18,18 +20,35 @@ use Rattle.waits.specs.Supply.{supply_low, supply_ok, set_supply, set_input, set
 use Rattle.waits.specs.Due.{waits_ended, pause_ended, write_ended, hold_ends_now, at_deadline}
 use Rattle.effects.specs.Theorems.Keeps as K
 use Rattle.bus.specs.I2c.{Heard}
-use Rattle.bus.specs.Theorems.Parts.{Parts, Same, and_then, itself, of, heard}
+use Rattle.bus.specs.Theorems.Parts.{Parts, parts, Same, and_then, itself, of, heard}
 
 -- ---- supply: one of 2400 mV or more changes nothing of a sensor that has supply; a lower one ends hearing
 
+-- of a sensor that has supply
+pub supply_stays : (o : Option Outage) (s : Sensor) (now : Time) → away o ≡ false → supply_ok o s now ≡ s
+unfolding supply_ok away
+supply_stays None s now e = refl
+supply_stays (Some o) s now e = cc
+
+pub supply_goes : (o : Option Outage) (s : Sensor) (zero : Bool) (now : Time) → away o ≡ false → is_off (supply_low o s zero now).sensor ≡ true
+unfolding supply_low away
+supply_goes None s zero now e = refl
+supply_goes (Some o) s zero now e = cc
+
+pub supply_on : (s : Sensor) (rail : ℕ) (now : Time) → is_off s ≡ false → ltb rail 2400 ≡ false → (set_supply s rail now).sensor ≡ s
+unfolding set_supply
+supply_on s rail now on e = rw e (supply_stays s.outage s now on)
+
+pub supply_off : (s : Sensor) (rail : ℕ) (now : Time) → is_off s ≡ false → ltb rail 2400 ≡ true → is_off (set_supply s rail now).sensor ≡ true
+unfolding set_supply
+supply_off s rail now on e = rw e (supply_goes s.outage s (eqb rail 0) now on)
+
 module _ (s : Sensor) (rail : ℕ) (now : Time) (h : Heard s) where
   pub supply_same : ltb rail 2400 ≡ false → Same s (set_supply s rail now).sensor
-  unfolding set_supply supply_ok
-  supply_same e = record { same = rw (e, h.on) }
+  supply_same e = record { same = ap (λ (t : Sensor). parts t) (supply_on s rail now h.on e) }
 
   pub supply_lost : ltb rail 2400 ≡ true → is_off (set_supply s rail now).sensor ≡ true
-  unfolding set_supply supply_low is_set
-  supply_lost e = rw (e, h.on)
+  supply_lost e = supply_off s rail now h.on e
 
 -- ---- due moments
 
@@ -38,7 +57,7 @@ unfolding unless_at is_at
 never_ends d now e = rw e
 
 ended_parts : (s : Sensor) (a b c d : Option Time) → a ≡ b → c ≡ d
-    → ◌≡◌ {A = Parts} (record { i2c = s.i2c; frame = F.released s.frame; supply = s.supply; serial_ready = a; quiet = c }) (record { i2c = s.i2c; frame = F.released s.frame; supply = s.supply; serial_ready = b; quiet = d })
+    → ◌≡◌ {A = Parts} (record { i2c = s.i2c; frame = F.released s.frame; outage = s.outage; serial_ready = a; quiet = c }) (record { i2c = s.i2c; frame = F.released s.frame; outage = s.outage; serial_ready = b; quiet = d })
 ended_parts s a b c d e g = rw (e, g)
 
 waits_same : (s : Sensor) (now : Time) → s.deadlines.serial_ready ≡ None → s.deadlines.quiet ≡ None → Same s (waits_ended s now)

@@ -6,9 +6,9 @@ use Rattle.i2c.specs.declared.types.State.{State}
 use Rattle.spi.specs.declared.types.Frame.{Frame}
 use Rattle.spi.specs.Frame as F
 use Rattle.deadlines.specs.Deadlines.{is_set}
-use Rattle.sensor.specs.declared.types.Supply.{Supply}
+use Rattle.sensor.specs.declared.types.Outage.{Outage}
 use Rattle.sensor.specs.declared.types.Sensor.{Sensor}
-use Rattle.sensor.specs.Record.{with_i2c, is_quiet}
+use Rattle.sensor.specs.Record.{away, with_i2c, is_quiet}
 use Rattle.serial.specs.I2cPins.{i2c_listens, ones_for}
 use Rattle.serial.specs.Outputs.{i2c_holds}
 use Rattle.i2c.specs.Target.{target}
@@ -23,15 +23,15 @@ absurd_bool e = let z : ◌≡◌ {A = ℕ} 1 0 = ap (λ (b : Bool). cond b 1 0)
 pub record Parts : Type 0 where
   pub i2c : State
   pub frame : Frame
-  pub supply : Supply
+  pub outage : Option Outage
   pub serial_ready : Option Time
   pub quiet : Option Time
 
 abbrev pub parts : Sensor → Parts
-parts s = record { i2c = s.i2c; frame = F.released s.frame; supply = s.supply; serial_ready = s.deadlines.serial_ready; quiet = s.deadlines.quiet }
+parts s = record { i2c = s.i2c; frame = F.released s.frame; outage = s.outage; serial_ready = s.deadlines.serial_ready; quiet = s.deadlines.quiet }
 
 abbrev part : C.Core → Parts
-part k = record { i2c = k.i2c; frame = k.frame; supply = k.supply; serial_ready = k.serial_ready; quiet = k.quiet }
+part k = record { i2c = k.i2c; frame = k.frame; outage = k.outage; serial_ready = k.serial_ready; quiet = k.quiet }
 
 -- t has them of s
 pub record Same (s t : Sensor) : Type 0 where
@@ -51,7 +51,7 @@ of p = record { same = ap part p.same }
 pub heard : {s t : Sensor} → Same s t → Heard s → Heard t
 heard {s} {t} p h =
     record {
-      on = ap (λ (k : Parts). is_set k.supply.unpowered_since) p.same ∙ h.on;
+      on = ap (λ (k : Parts). away k.outage) p.same ∙ h.on;
       ready = ap (λ (k : Parts). k.serial_ready) p.same ∙ h.ready;
       unselected = ap (λ (k : Parts). k.frame.selected) p.same ∙ h.unselected;
       at_rest = ap (λ (k : Parts). k.frame.serial) p.same ∙ h.at_rest;

@@ -11,10 +11,9 @@ use Rattle.spi.specs.declared.types.Shift.{Shift}
 use Rattle.spi.specs.declared.types.Shift.TheVariants as H
 use Rattle.spi.specs.Frame as F
 use Rattle.spi.specs.Lines.{output}
-use Rattle.deadlines.specs.Deadlines.{is_set}
-use Rattle.sensor.specs.declared.types.Supply.{Supply}
+use Rattle.sensor.specs.declared.types.Outage.{Outage}
 use Rattle.sensor.specs.declared.types.Sensor.{Sensor}
-use Rattle.sensor.specs.Record.{with_frame, is_off, serial_not_ready}
+use Rattle.sensor.specs.Record.{away, with_frame, is_off, serial_not_ready}
 use Rattle.sensor.specs.RegisterReads.{shown, peek, fetched, counts_as_read, byte_read}
 use Rattle.serial.specs.SpiEdges as E
 use Rattle.effects.specs.Theorems.Keeps as K
@@ -35,7 +34,7 @@ faded_of {P} {s} {t} p d x =
 pub chosen : {s t : Sensor} → Same s t → Chosen s → Chosen t
 chosen p h =
     record {
-      on = ap (λ (k : Parts). is_set k.supply.unpowered_since) p.same ∙ h.on;
+      on = ap (λ (k : Parts). away k.outage) p.same ∙ h.on;
       ready = ap (λ (k : Parts). k.serial_ready) p.same ∙ h.ready;
       loud = ap (λ (k : Parts). k.quiet) p.same ∙ h.loud;
       selected = ap (λ (k : Parts). k.frame.selected) p.same ∙ h.selected;
@@ -52,20 +51,20 @@ module _ {s : Sensor} (h : Chosen s) where
 -- ---- the parts beside the frame
 
 pub record Around : Type 0 where
-  pub supply : Supply
+  pub outage : Option Outage
   pub serial_ready : Option Time
   pub quiet : Option Time
 
 abbrev pub around : Sensor → Around
-around s = record { supply = s.supply; serial_ready = s.deadlines.serial_ready; quiet = s.deadlines.quiet }
+around s = record { outage = s.outage; serial_ready = s.deadlines.serial_ready; quiet = s.deadlines.quiet }
 
 pub around_same : {s t : Sensor} → Same s t → around t ≡ around s
-around_same p = ap (λ (k : Parts). record { supply = k.supply; serial_ready = k.serial_ready; quiet = k.quiet }) p.same
+around_same p = ap (λ (k : Parts). record { outage = k.outage; serial_ready = k.serial_ready; quiet = k.quiet }) p.same
 
 pub chosen_again : {s t : Sensor} → around t ≡ around s → t.frame.selected ≡ true → Chosen s → Chosen t
 chosen_again p e h =
     record {
-      on = ap (λ (k : Around). is_set k.supply.unpowered_since) p ∙ h.on;
+      on = ap (λ (k : Around). away k.outage) p ∙ h.on;
       ready = ap (λ (k : Around). k.serial_ready) p ∙ h.ready;
       loud = ap (λ (k : Around). k.quiet) p ∙ h.loud;
       selected = e;

@@ -15,13 +15,14 @@ use Rattle.sensor.specs.Select.{selected_to, may_select, set_selected}
 use Rattle.samples.specs.Samples.{sync_local_until}
 use Rattle.writes.specs.Write.{write_kind}
 use Rattle.serial.specs.SpiEdges as E
-use Rattle.waits.specs.Supply.{supply_low, set_supply}
+use Rattle.waits.specs.Supply.{set_supply}
 use Rattle.bma150.specs.declared.host.Bma150.{Bma150}
 use Rattle.bma150.specs.Called.{effect, leaves}
 use Rattle.book.specs.Does.{at_rise, spi_write}
 use Rattle.book.specs.Lists.{accepts, step}
 use Rattle.effects.specs.Theorems.Keeps as K
 use Rattle.bus.specs.Spi.{Chosen, noted, write_resets, timed_leaves, leaves_frame}
+use Rattle.bus.specs.Theorems.Between.{supply_off}
 use Rattle.bus.specs.Theorems.Parts.{absurd_bool, and_then, of, is_never}
 use Rattle.bus.specs.Theorems.Reports.{reset_quiets}
 use Rattle.bus.specs.Theorems.Calls.{accepted_leaves}
@@ -36,8 +37,7 @@ loud {s} h = is_never s.deadlines.quiet h.loud
 -- ---- supply
 
 lost : (s : Sensor) (rail : ℕ) (now : Time) → is_off s ≡ false → ltb rail 2400 ≡ true → is_off (set_supply s rail now).sensor ≡ true
-unfolding set_supply supply_low is_set
-lost s rail now on e = rw (e, on)
+lost s rail now on e = supply_off s rail now on e
 
 -- ---- a soft reset
 

@@ -18,7 +18,7 @@ use Rattle.sensor.specs.Record.{is_off, four_wire}
 use Rattle.sensor.specs.Select.{selected_to, may_select, set_selected}
 use Rattle.samples.specs.Samples.{sync_local_until}
 use Rattle.serial.specs.I2cPins.{i2c_listens}
-use Rattle.waits.specs.Supply.{supply_ok, set_supply}
+use Rattle.waits.specs.Supply.{set_supply}
 use Rattle.bma150.specs.declared.host.Bma150.{Bma150}
 use Rattle.bma150.specs.Called.{effect, leaves}
 use Rattle.book.specs.Does.{at_rise}
@@ -27,7 +27,7 @@ use Rattle.effects.specs.Theorems.Driver as D
 use Rattle.bus.specs.I2c.{sampled}
 use Rattle.bus.specs.Spi.{Chosen, timed_edge, edge_of, at_fall, timed_now, now_of, timed_leaves, leaves_frame, sleeps_at}
 use Rattle.bus.specs.Theorems.Parts.{absurd_bool, Same, and_then}
-use Rattle.bus.specs.Theorems.Between.{due_same}
+use Rattle.bus.specs.Theorems.Between.{supply_on, due_same}
 use Rattle.bus.specs.Theorems.Calls.{accepted_leaves}
 use Rattle.bus.specs.Theorems.Unheard.{deaf_report}
 use Rattle.bus.specs.Theorems.Fading.{Faded, unfaded, and_faded, serve_faded}
@@ -124,8 +124,7 @@ module _ (s : Bma150) (now : Time) (h : Chosen s.sensor) where
   input_left input ok = no_edge (Timed.Accelerations input) ok refl (record { same = refl }) (unfaded refl)
 
   supplied : (rail : ℕ) → ltb rail 2400 ≡ false → is_off y ≡ false → (set_supply y rail now).sensor ≡ y
-  unfolding set_supply supply_ok
-  supplied rail e f = rw (e, f)
+  supplied rail e f = supply_on y rail now f e
 
   supply_left : (rail : ℕ) → ltb rail 2400 ≡ false → accepts s (at_now (Timed.Supply rail)) ≡ true → Left s (at_now (Timed.Supply rail))
   unfolding effect timed_edge

@@ -16,7 +16,7 @@ use Rattle.deadlines.specs.Deadlines.{is_set}
 use Rattle.calls.specs.declared.types.Timed.TheVariants as Timed
 use Rattle.calls.specs.declared.types.Call.{Call}
 use Rattle.sensor.specs.declared.types.Sensor.{Sensor}
-use Rattle.sensor.specs.Record.{with_lines, with_i2c, is_off, serial_not_ready, is_quiet}
+use Rattle.sensor.specs.Record.{away, with_lines, with_i2c, is_off, serial_not_ready, is_quiet}
 use Rattle.samples.specs.Samples.{sync_local_until}
 use Rattle.serial.specs.I2cPins.{i2c_listens, ones_for, acted, i2c_pins, pins_synced}
 use Rattle.serial.specs.Outputs.{i2c_holds}
@@ -39,7 +39,7 @@ module _ (s : Sensor) (now : Time) where
 
   listens_same : i2c_listens caught ≡ i2c_listens s
   unfolding i2c_listens
-  listens_same = ap (λ (k : Parts). not k.frame.selected && (not (is_set k.supply.unpowered_since) && not (is_set k.serial_ready))) same.same
+  listens_same = ap (λ (k : Parts). not k.frame.selected && (not (away k.outage) && not (is_set k.serial_ready))) same.same
 
   quiet_same : is_quiet caught ≡ is_quiet s
   quiet_same = ap (λ (k : Parts). is_set k.quiet) same.same

@@ -280,8 +280,8 @@ module _ (now : Time) where
     stops = λ s. let k = held_keeps s.sampling now s.kept.input in stays refl refl k.0 k.1;
     cuts = λ s w o. cuts_cell s w.address _;
     goes_off = λ s cold. stays refl refl refl refl;
-    meets_zero = λ s o. stays refl refl refl refl;
-    comes_back = λ s o. stays refl refl refl refl;
+    meets_zero = λ s o e. stays refl refl refl refl;
+    comes_back = λ s o e. stays refl refl refl refl;
     powers_on = λ s o. fresh refl refl refl (Course.returned Course.here now);
     sets = λ s input. let k = set_keeps s input now in stays refl refl k.0 k.1;
     follows = λ s lines. stays refl refl refl refl;

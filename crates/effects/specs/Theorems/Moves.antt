@@ -1,6 +1,6 @@
 -- When the stage moves, and when it is left alone (analog.rs as bma150.rs and bma150/control.rs call it): an equation for each.
 use Rattle.sensor.specs.Operation.{Operation}
-use Rattle.std.specs.Prelude.{ℕ, suc, ◌<◌, ◌≤◌, ◌≡◌, Bool, cond, List, eqb, ℤ, Some, None}
+use Rattle.std.specs.Prelude.{ℕ, suc, ◌<◌, ◌≤◌, ◌≡◌, Bool, cond, List, eqb, ℤ, Option, Some, None}
 use Rattle.std.proofs.Math.Path.{refl}
 use Rattle.std.proofs.Common.{ap, ◌∙◌, le-ltb, lt-ltb}
 use Rattle.std.proofs.Math.Bool.{true, false}
@@ -13,9 +13,10 @@ use Rattle.sampling.specs.declared.types.Input.{Input}
 use Rattle.sampling.specs.declared.types.Acquisition.{Acquisition}
 use Rattle.sampling.specs.Phase as Phase
 use Rattle.sampling.specs.Stage as Stage
+use Rattle.sensor.specs.declared.types.Outage.{Outage}
 use Rattle.sensor.specs.declared.types.Sensor.{Sensor}
 use Rattle.spi.specs.Frame as F
-use Rattle.sensor.specs.Record.{with_supply, is_off}
+use Rattle.sensor.specs.Record.{away, cold_of, is_off, is_cold}
 use Rattle.sensor.specs.Image.{from_nonvolatile}
 use Rattle.sensor.specs.Select.{reselected, selected_to, may_select}
 use Rattle.sensor.specs.Mode.{start_acquisition, pause, soft_reset}
@@ -47,7 +48,7 @@ caught_up s now = record { x = A.advanced (stage s).x now (x_of s); y = A.advanc
 pub record Moves : Type 0 where
   -- ---- at rest from that moment: a start, a return from 0 mV, a soft reset
   pub start : (now : Time) (image : List ℕ) → stage (from_nonvolatile now image) ≡ A.rest now
-  pub rests_after_zero : (s : Sensor) (rail : ℕ) (now : Time) → 2400 ≤ rail → is_off s ≡ true → s.supply.cold ≡ true → stage (set_supply s rail now).sensor ≡ A.rest now
+  pub rests_after_zero : (s : Sensor) (rail : ℕ) (now : Time) → 2400 ≤ rail → is_off s ≡ true → is_cold s ≡ true → stage (set_supply s rail now).sensor ≡ A.rest now
   pub reset : (s : Sensor) (now : Time) → stage (soft_reset s now) ≡ A.rest now
   -- ---- a phase of x, y or z advances its axis to the edge's moment, whatever the registers hold (so under self_test_1 too), and no other
   pub phase : (c : Acquisition) (input : Input) (needs : List ℕ) (axis : ℕ) → Phase.phase_of c.sampling.clock.ordinal ≡ suc axis → c.sampling.test ≡ None
@@ -68,8 +69,8 @@ pub record Moves : Type 0 where
   pub low_while_off : (s : Sensor) (rail : ℕ) (now : Time) → rail < 2400 → is_off s ≡ true → stage (set_supply s rail now).sensor ≡ stage s
   -- ---- a wake and a warm return awake: output and velocity stay, and the time between does not count; a warm return asleep moves none
   pub wakes : (s : Sensor) (now : Time) (ready : Duration) → stage (start_acquisition s now ready) ≡ A.all_resumed (stage s) now
-  pub returns_warm : (s : Sensor) (rail : ℕ) (now : Time) → 2400 ≤ rail → is_off s ≡ true → s.supply.cold ≡ false → s.sampling.asleep ≡ false → stage (set_supply s rail now).sensor ≡ A.all_resumed (stage s) now
-  pub returns_asleep : (s : Sensor) (rail : ℕ) (now : Time) → 2400 ≤ rail → is_off s ≡ true → s.supply.cold ≡ false → s.sampling.asleep ≡ true → stage (set_supply s rail now).sensor ≡ stage s
+  pub returns_warm : (s : Sensor) (rail : ℕ) (now : Time) → 2400 ≤ rail → is_off s ≡ true → is_cold s ≡ false → s.sampling.asleep ≡ false → stage (set_supply s rail now).sensor ≡ A.all_resumed (stage s) now
+  pub returns_asleep : (s : Sensor) (rail : ℕ) (now : Time) → 2400 ≤ rail → is_off s ≡ true → is_cold s ≡ false → s.sampling.asleep ≡ true → stage (set_supply s rail now).sensor ≡ stage s
   -- supply that stays moves none
   pub stays_on : (s : Sensor) (rail : ℕ) (now : Time) → 2400 ≤ rail → is_off s ≡ false → stage (set_supply s rail now).sensor ≡ stage s
 
@@ -135,41 +136,62 @@ lost_stage s now cold =
 
 -- supply below 2400 mV, and not
 module _ (s : Sensor) (rail : ℕ) (now : Time) where
-  low : rail < 2400 → set_supply s rail now ≡ supply_low s (eqb rail 0) now
+  low : rail < 2400 → set_supply s rail now ≡ supply_low s.outage s (eqb rail 0) now
   unfolding set_supply
   low p = rw (lt-ltb rail 2400 p)
 
-  high : 2400 ≤ rail → set_supply s rail now ≡ without_report (supply_ok s now)
+  high : 2400 ≤ rail → set_supply s rail now ≡ without_report (supply_ok s.outage s now)
   unfolding set_supply
   high p = rw (le-ltb rail 2400 p)
 
-  lost_on : is_off s ≡ false → stage (supply_low s (eqb rail 0) now).sensor ≡ stage (held s now)
-  unfolding supply_low
-  lost_on on = rw on (lost_stage s now (eqb rail 0))
-
-  low_off : is_off s ≡ true → stage (supply_low s (eqb rail 0) now).sensor ≡ stage s
-  unfolding supply_low zero_while_off
-  low_off off = rw off (by (eqb rail 0))
+  lost_on : is_off s ≡ false → stage (supply_low s.outage s (eqb rail 0) now).sensor ≡ stage (held s now)
+  unfolding supply_low away
+  lost_on = go s.outage
     where
-      by : (b : Bool) → stage (cond b (with_supply s (record { unpowered_since = s.supply.unpowered_since; cold = true })) s) ≡ stage s
-      by true = refl
-      by false = refl
+      go : (o : Option Outage) → away o ≡ false → stage (supply_low o s (eqb rail 0) now).sensor ≡ stage (held s now)
+      go None e = lost_stage s now (eqb rail 0)
+      go (Some o) e = cc
 
-  back_cold : is_off s ≡ true → s.supply.cold ≡ true → stage (supply_ok s now) ≡ A.rest now
-  unfolding supply_ok returned
-  back_cold off cold = rw (off, cold)
+  low_off : is_off s ≡ true → stage (supply_low s.outage s (eqb rail 0) now).sensor ≡ stage s
+  unfolding supply_low zero_while_off away
+  low_off = go s.outage (eqb rail 0)
+    where
+      go : (o : Option Outage) (zero : Bool) → away o ≡ true → stage (supply_low o s zero now).sensor ≡ stage s
+      go None zero e = cc
+      go (Some o) true e = refl
+      go (Some o) false e = refl
 
-  back_warm : is_off s ≡ true → s.supply.cold ≡ false → s.sampling.asleep ≡ false → stage (supply_ok s now) ≡ A.all_resumed (stage s) now
-  unfolding supply_ok returned reacquired
-  back_warm off warm awake = rw (off, warm, awake)
+  back_cold : is_off s ≡ true → is_cold s ≡ true → stage (supply_ok s.outage s now) ≡ A.rest now
+  unfolding supply_ok returned away cold_of
+  back_cold = go s.outage
+    where
+      go : (o : Option Outage) → away o ≡ true → cold_of o ≡ true → stage (supply_ok o s now) ≡ A.rest now
+      go None off cold = cc
+      go (Some o) off cold = rw cold
 
-  back_asleep : is_off s ≡ true → s.supply.cold ≡ false → s.sampling.asleep ≡ true → stage (supply_ok s now) ≡ stage s
-  unfolding supply_ok returned reacquired
-  back_asleep off warm asleep = rw (off, warm, asleep)
+  back_warm : is_off s ≡ true → is_cold s ≡ false → s.sampling.asleep ≡ false → stage (supply_ok s.outage s now) ≡ A.all_resumed (stage s) now
+  unfolding supply_ok returned reacquired away cold_of
+  back_warm = go s.outage
+    where
+      go : (o : Option Outage) → away o ≡ true → cold_of o ≡ false → s.sampling.asleep ≡ false → stage (supply_ok o s now) ≡ A.all_resumed (stage s) now
+      go None off warm awake = cc
+      go (Some o) off warm awake = rw (warm, awake)
 
-  on_stays : is_off s ≡ false → stage (supply_ok s now) ≡ stage s
-  unfolding supply_ok
-  on_stays on = rw on
+  back_asleep : is_off s ≡ true → is_cold s ≡ false → s.sampling.asleep ≡ true → stage (supply_ok s.outage s now) ≡ stage s
+  unfolding supply_ok returned reacquired away cold_of
+  back_asleep = go s.outage
+    where
+      go : (o : Option Outage) → away o ≡ true → cold_of o ≡ false → s.sampling.asleep ≡ true → stage (supply_ok o s now) ≡ stage s
+      go None off warm asleep = cc
+      go (Some o) off warm asleep = rw (warm, asleep)
+
+  on_stays : is_off s ≡ false → stage (supply_ok s.outage s now) ≡ stage s
+  unfolding supply_ok away
+  on_stays = go s.outage
+    where
+      go : (o : Option Outage) → away o ≡ false → stage (supply_ok o s now) ≡ stage s
+      go None e = refl
+      go (Some o) e = cc
 
 -- of a served call the sensor's stage
 abbrev left : Served → Analog

@@ -97,8 +97,8 @@ module _ (now : Time) where
     stops = λ s. record { onward = λ h. held_upto now s.sampling s.kept.input h };
     cuts = λ s w o. record { onward = λ h. h };
     goes_off = λ s cold. record { onward = λ h. h };
-    meets_zero = λ s o. record { onward = λ h. h };
-    comes_back = λ s o. record { onward = λ h. h };
+    meets_zero = λ s o e. record { onward = λ h. h };
+    comes_back = λ s o e. record { onward = λ h. h };
     powers_on = λ s o. record { onward = λ h. rest_upto now };
     sets = λ s input. record { onward = λ h. input_upto s input h };
     follows = λ s lines. record { onward = λ h. h };

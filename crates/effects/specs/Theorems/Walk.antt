@@ -1,6 +1,7 @@
 -- A relation that each step meets is met by all that a call does: samples, register writes, reads, edges, reports, due moments, supply.
 use Rattle.sensor.specs.Operation.{Operation}
 use Rattle.std.specs.Prelude.{ℕ, ◌≡◌, refl, Bool, true, cond, ◌&&◌, ltb, eqb, Option, Some, None}
+use Rattle.std.proofs.Math.Path.{ap}
 use Rattle.std.proofs.Math.Bool.{false, not}
 use Rattle.time.specs.declared.Time.{Time}
 use Rattle.time.specs.Time.{same, from_millis}
@@ -20,8 +21,9 @@ use Rattle.control.specs.declared.types.Sleep.{Sleep}
 use Rattle.control.specs.Automatic.{holds, pauses_again}
 use Rattle.control.specs.Kinds as Kinds
 use Rattle.registers.specs.Map.{at, operation, latch_INT}
+use Rattle.sensor.specs.declared.types.Outage.{Outage}
 use Rattle.sensor.specs.declared.types.Sensor.{Sensor}
-use Rattle.sensor.specs.Record.{with_frame, is_off, serial_not_ready, is_quiet, automatic, four_wire}
+use Rattle.sensor.specs.Record.{with_frame, away, is_off, serial_not_ready, is_quiet, automatic, four_wire}
 use Rattle.sensor.specs.Mode.{criterion, may_sleep, pause_restarted, interrupt_held, pause_if_idle, automatic_control}
 use Rattle.sensor.specs.RegisterReads.{peek, fetched, counts_as_read, byte_read}
 use Rattle.sensor.specs.Select.{selected_to, may_select, set_selected}
@@ -193,31 +195,33 @@ module _ (now : Time) (R : Sensor → Sensor → Type 0) (p : Steps now R) where
   power_off_meets : (s : Sensor) (cold : Bool) → R s (S.power_off s now cold).sensor
   power_off_meets s cold = p.then (p.stops s) (p.then (cut_meets s.writing (S.held s now) refl) (off_meets _ cold))
 
-  zero_meets : (s : Sensor) (cold : Bool) → is_off s ≡ true → R s (S.zero_while_off s cold)
+  zero_meets : (s : Sensor) (o : Outage) (zero : Bool) → s.outage ≡ Some o → R s (S.zero_while_off s o zero)
   unfolding S.zero_while_off
-  zero_meets s cold o = choose cold (λ e. p.meets_zero s o) (λ e. same_as s)
+  zero_meets s o zero e = choose zero (λ q. p.meets_zero s o e) (λ q. same_as s)
 
   reacquired_meets : (s : Sensor) → R s (S.reacquired s now)
   unfolding S.reacquired
   reacquired_meets s = choose s.sampling.asleep (λ e. same_as s) (λ e. p.acquires s (from_millis 1))
 
-  returned_meets : (s : Sensor) → is_off s ≡ true → R s (S.returned s now)
-  unfolding S.returned
-  returned_meets s o = choose s.supply.cold (λ e. p.powers_on s o) (λ e. p.then (p.comes_back s o) (reacquired_meets _))
+  returned_meets : (s : Sensor) (o : Outage) → s.outage ≡ Some o → R s (S.returned s o now)
+  unfolding S.returned away
+  returned_meets s o e = choose o.cold (λ q. p.powers_on s (ap (λ (x : Option Outage). away x) e)) (λ q. p.then (p.comes_back s o e) (reacquired_meets _))
 
-  supply_low_meets : (s : Sensor) (cold : Bool) → R s (S.supply_low s cold now).sensor
+  supply_low_meets : (o : Option Outage) (s : Sensor) (zero : Bool) → s.outage ≡ o → R s (S.supply_low o s zero now).sensor
   unfolding S.supply_low
-  supply_low_meets s cold =
-      chosen (S.without_report (S.zero_while_off s cold)) (S.power_off s now cold) (is_off s) (λ e. zero_meets s cold e) (λ e. power_off_meets s cold)
+  supply_low_meets None s zero e = power_off_meets s zero
+  supply_low_meets (Some o) s zero e = zero_meets s o zero e
 
-  supply_ok_meets : (s : Sensor) → R s (S.supply_ok s now)
+  supply_ok_meets : (o : Option Outage) (s : Sensor) → s.outage ≡ o → R s (S.supply_ok o s now)
   unfolding S.supply_ok
-  supply_ok_meets s = choose (is_off s) (λ e. returned_meets s e) (λ e. same_as s)
+  supply_ok_meets None s e = same_as s
+  supply_ok_meets (Some o) s e = returned_meets s o e
 
   pub supply_meets : (s : Sensor) (rail : ℕ) → R s (S.set_supply s rail now).sensor
   unfolding S.set_supply
   supply_meets s rail =
-      chosen (S.supply_low s (eqb rail 0) now) (S.without_report (S.supply_ok s now)) (ltb rail 2400) (λ e. supply_low_meets s (eqb rail 0)) (λ e. supply_ok_meets s)
+      chosen (S.supply_low s.outage s (eqb rail 0) now) (S.without_report (S.supply_ok s.outage s now)) (ltb rail 2400)
+      (λ e. supply_low_meets s.outage s (eqb rail 0) refl) (λ e. supply_ok_meets s.outage s refl)
 
   -- ---- samples
 

@@ -7,14 +7,15 @@ use Rattle.std.proofs.Math.Bool.{false}
 use Rattle.time.specs.declared.Time.{Time}
 use Rattle.time.specs.Time.{ticks, precedes}
 use Rattle.nv.specs.Cell.{write_length, cell_number, byte}
-use Rattle.deadlines.specs.Deadlines.{is_set, is_by}
+use Rattle.deadlines.specs.Deadlines.{is_by}
 use Rattle.spi.specs.Frame as F
 use Rattle.calls.specs.declared.types.Timed.TheVariants as Timed
 use Rattle.calls.specs.declared.types.Call.{Call}
 use Rattle.calls.specs.Table as T
 use Rattle.calls.specs.Facts as TF
+use Rattle.sensor.specs.declared.types.Outage.{Outage}
 use Rattle.sensor.specs.declared.types.Sensor.{Sensor}
-use Rattle.sensor.specs.Record.{is_off}
+use Rattle.sensor.specs.Record.{away, cold_of, is_off, is_cold}
 use Rattle.sensor.specs.Image.{cell_byte, with_cell, image_at, power_on}
 use Rattle.sensor.specs.Select.{reselected, selected_to, may_select}
 use Rattle.samples.specs.Samples.{samples_run, write_end, next_deadline, interaction_deadline}
@@ -31,7 +32,7 @@ use Rattle.happens.specs.Theorems.Waiting.{ends_later, asleep_held}
 -- without supply after 0 mV, with these stored bytes
 pub record Dark (image : List ℕ) (s : Sensor) : Type 0 where
   pub off : is_off s ≡ true
-  pub cold : s.supply.cold ≡ true
+  pub cold : is_cold s ≡ true
   pub cells : s.nonvolatile ≡ image
 
 -- ---- a supply call of 0 mV
@@ -46,12 +47,16 @@ deselected s = by (F.changes s.frame false)
     by false = refl
 
 off_dark : (s : Sensor) (now : Time) → Dark s.nonvolatile (off s now true)
-unfolding is_set
+unfolding away cold_of
 off_dark s now = record { off = refl; cold = refl; cells = deselected s }
 
 zero_cuts : (s : Sensor) (now : Time) → is_off s ≡ false → (set_supply s 0 now).sensor ≡ off (cut s.writing (Supply.held s now) now).sensor now true
-unfolding set_supply supply_low
-zero_cuts s now on = rw on
+unfolding set_supply supply_low away
+zero_cuts s now = by s.outage
+  where
+    by : (o : Option Outage) → away o ≡ false → (supply_low o s true now).sensor ≡ off (cut s.writing (Supply.held s now) now).sensor now true
+    by None e = refl
+    by (Some o) e = cc
 
 dark_as : {image cells : List ℕ} {s : Sensor} → image ≡ cells → Dark image s → Dark cells s
 dark_as e h = record { off = h.off; cold = h.cold; cells = h.cells ∙ e }
@@ -107,8 +112,12 @@ module _ (now : Time) {image : List ℕ} {s : Sensor} (late : T.late now ≡ fal
   return_accepted = plain_accepted (host now s) now (Timed.Supply 2400) (supply_plain 2400) late not_back (ap (λ (d : Option Time). is_by d now) undue)
 
   returns_cold : (set_supply s 2400 now).sensor ≡ power_on s now
-  unfolding set_supply supply_ok returned
-  returns_cold = rw (h.off, h.cold)
+  unfolding set_supply supply_ok returned cold_of
+  returns_cold = by s.outage h.cold
+    where
+      by : (o : Option Outage) → cold_of o ≡ true → supply_ok o s now ≡ power_on s now
+      by None e = cc
+      by (Some o) e = rw e
 
   -- and returns the sensor as after a start from its stored bytes
   pub return_goes : Goes (host now s) (Call.At now (Timed.Supply 2400) ∷ []) (host now (power_on s now))

@@ -11,6 +11,7 @@ use Rattle.spi.specs.Frame as F
 use Rattle.calls.specs.declared.types.Call.{Call}
 use Rattle.registers.specs.Map.{at, control, ee_w}
 use Rattle.sensor.specs.declared.types.Sensor.{Sensor}
+use Rattle.sensor.specs.Record.{away}
 use Rattle.sensor.specs.Image.{from_nonvolatile}
 use Rattle.sensor.specs.Select.{reselected, selected_to, may_select}
 use Rattle.samples.specs.Samples.{write_end}
@@ -132,7 +133,7 @@ module _ {b : Start} {a x : ℕ} {cut : Time} (w : Wanted b a x cut) where
   h5 = sleep_written h4.0.awake h4.0.manual
 
   selects : leaves (host t s0) (Call.Select true) ≡ host t s1
-  unfolding leaves selected_to may_select F.differs is_set
+  unfolding leaves selected_to may_select F.differs is_set away
   selects = refl
 
   all_go : Goes (started b) (spi_writes t a x) (host t s5)

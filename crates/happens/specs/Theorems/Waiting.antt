@@ -10,11 +10,12 @@ use Rattle.deadlines.specs.Deadlines.{is_set, is_by, sooner, first, earliest}
 use Rattle.deadlines.specs.declared.Deadlines.{Deadlines}
 use Rattle.deadlines.proofs.Theorems.Earliest.{sooner_never}
 use Rattle.control.specs.Lengths.{acquisition_delay}
+use Rattle.sensor.specs.declared.types.Outage.{Outage}
 use Rattle.sensor.specs.declared.types.Sensor.{Sensor}
-use Rattle.sensor.specs.Record.{is_off, automatic}
+use Rattle.sensor.specs.Record.{away, is_off, automatic}
 use Rattle.samples.specs.Samples.{samples_run, next_sample, write_end, sample_due, next_deadline, interaction_deadline}
 use Rattle.happens.specs.Theorems.Moments.{not_by}
-use Rattle.happens.specs.Theorems.Holding.{Held, never_set}
+use Rattle.happens.specs.Theorems.Holding.{Held}
 use Rattle.happens.specs.Theorems.Writes.{Awake, Asleep}
 
 -- without samples next due is the first of the waits and the end of a write
@@ -59,10 +60,11 @@ module _ {t : Time} (high : t.0 < 2 ^ 32) (low : t.1 < 2 ^ 64) where
 
   module _ {image : List ℕ} {selected : Bool} {s : Sensor} (h : Awake t image selected s) where
     awake_on : is_off s ≡ false
-    awake_on = never_set h.on
+    unfolding away
+    awake_on = ap (λ (o : Option Outage). away o) h.on
 
     awake_unsampled : samples_run s ≡ false
-    unfolding samples_run is_set
+    unfolding samples_run is_set away
     awake_unsampled = rw (h.on, h.awake, h.waits)
 
     -- an awake sensor stands still at its start
@@ -80,10 +82,11 @@ module _ {t : Time} (high : t.0 < 2 ^ 32) (low : t.1 < 2 ^ 64) where
 
 module _ {image : List ℕ} {selected : Bool} {s : Sensor} (h : Asleep image selected s) where
   asleep_on : is_off s ≡ false
-  asleep_on = never_set h.on
+  unfolding away
+  asleep_on = ap (λ (o : Option Outage). away o) h.on
 
   asleep_unsampled : samples_run s ≡ false
-  unfolding samples_run is_set
+  unfolding samples_run away
   asleep_unsampled = rw (h.on, h.asleep)
 
   -- a sleeping one stands still until its write ends

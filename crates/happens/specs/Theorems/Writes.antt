@@ -24,7 +24,7 @@ use Rattle.writes.specs.Write.{recounted, interrupts_written, tested, slept, ima
 
 -- a sensor as it is from its start on: awake, with supply, its first scan to come, its stored bytes and its frame these
 pub record Awake (t : Time) (image : List ℕ) (selected : Bool) (s : Sensor) : Type 0 where
-  pub on : s.supply.unpowered_since ≡ None
+  pub on : s.outage ≡ None
   pub waits : s.deadlines ≡ acquiring t
   pub awake : s.sampling.asleep ≡ false
   pub cells : s.nonvolatile ≡ image
@@ -33,7 +33,7 @@ pub record Awake (t : Time) (image : List ℕ) (selected : Bool) (s : Sensor) : 
 
 -- asleep outside automatic mode: nothing is due but the end of a write
 pub record Asleep (image : List ℕ) (selected : Bool) (s : Sensor) : Type 0 where
-  pub on : s.supply.unpowered_since ≡ None
+  pub on : s.outage ≡ None
   pub waits : s.deadlines ≡ never
   pub asleep : s.sampling.asleep ≡ true
   pub cells : s.nonvolatile ≡ image
