@@ -1,10 +1,9 @@
 -- The bytes that stand in a buffer from one place to another.
 use Rattle.std.specs.Prelude.{◌≡◌, List, ◌++◌, ℕ, ◌+◌, ◌-◌, ◌≤◌, length, take, drop}
-use Rattle.std.proofs.Common.{sym, ap, ◌∙◌, arith, length-take, length-take-le, length-drop, take-add, drop-drop, drop_at, append-nil}
+use Rattle.std.proofs.Common.{sym, ap, ◌∙◌, arith, length-take-le, length-drop, take-add, drop-drop, drop_at, append-nil}
 use Rattle.std.proofs.Math.Seq.{take-append-add}
 use Rattle.std.proofs.lemmas.List.{drop-append-le, drop-take}
-use Rattle.machine.specs.Put.{Put}
-use Rattle.machine.proofs.Theorems.Put.{text}
+use lib.Seq.{paste, take-paste}
 
 abbrev pub kept : (buf : List ℕ) (at have : ℕ) → List ℕ
 kept buf at have = take (have - at) (drop at buf)
@@ -21,12 +20,6 @@ within buf at have n h g e = omega (arith, kept_length buf at have h g)
 pub less : (i : ℕ) → i ≡ i - 0
 less i = omega arith
 
--- bytes moved to the front stay there while more is read behind them
-pub stays_front : (b c d : List ℕ) (at have k : ℕ) → Put b 0 (kept b at have) c k → take k d ≡ take k c → take k d ≡ kept b at have
-stays_front b c d at have k p q =
-    let n : 0 + length (kept b at have) ≤ length b = simp (length-take, length-drop) (omega arith) in
-    q ∙ text n p
-
 -- the first n left out
 pub shorter : (buf : List ℕ) (at have n : ℕ) → at ≤ have → have ≤ length buf → n ≤ length (kept buf at have) → kept buf (at + n) have ≡ drop n (kept buf at have)
 shorter buf at have n h g f =
@@ -40,11 +33,10 @@ shorter buf at have n h g f =
     ∙ ap (take (have - (at + n))) (drop-drop n at buf))
 
 -- moved to the front
-pub front : {b c : List ℕ} (at have n : ℕ) → at ≤ have → have ≤ length b → at + n ≡ have → Put b 0 (take (have - at) (drop at b)) c n → kept c 0 n ≡ kept b at have
-front {b} {c} at have n h g e p =
-    let fits : 0 + length (take (have - at) (drop at b)) ≤ length b = simp (length-take, length-drop) (omega arith) in
-    let z : n - 0 ≡ n = omega arith in
-    rw z (text fits p)
+pub front : (buf : List ℕ) (at have : ℕ) → at ≤ have → have ≤ length buf → kept (paste buf 0 (drop at buf) (have - at)) 0 (have - at) ≡ kept buf at have
+front buf at have h g =
+    let z : have - at - 0 ≡ 0 + (have - at) = omega arith in
+    rw z (take-paste buf 0 (drop at buf) (have - at) (omega arith) (room buf at (have - at) (omega arith)))
 
 -- the bytes l stored behind them, as far as n of them
 pub behind : (buf l : List ℕ) (at have n : ℕ) → at ≤ have → have ≤ length buf → kept (take have buf ++ l) at (have + n) ≡ kept buf at have ++ take n l

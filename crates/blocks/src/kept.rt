@@ -1,23 +1,10 @@
 // The bytes that were read and are yet to be served.
-ghost use Rattle.std.specs.Prelude.{◌≡◌, ◌+◌, ◌-◌, ◌≤◌, [], length, take, drop};
-ghost use Rattle.machine.specs.Put.{Put};
+ghost use Rattle.std.specs.Prelude.{◌≡◌, [], drop};
 ghost use Rattle.blocks.specs.Kept.{Filled};
 
 use std::io;
 use std::io::Read;
 use std::marker::Model;
-
-// Moves the bytes from `at` to `have` to the front, and answers how many they are. std has no `copy_within`.
-fn shift(buf: &mut [u8; 65536], at: usize, have: usize) -> usize
-    requires { (at ≤ have) × (have ≤ 65536) }
-    ensures put { Put buf.old 0 (take (have - at) (drop at buf.old)) buf.new result }
-    ensures size { at + result ≡ have }
-{
-    for i in 0..have - at {
-        buf[i] = buf[at + i];
-    }
-    have - at
-}
 
 // They stand from `at` to `have`.
 #[derive(Drop)]
@@ -65,7 +52,8 @@ impl Kept {
     pub fn fill<R: Read>(&mut self, input: &mut R) -> io::Result<usize>
         ensures { Filled (R.remaining input.old) (R.remaining input.new) self.old self.new result }
     {
-        self.have = shift(&mut self.buf, self.at, self.have);
+        self.buf.copy_within(self.at..self.have, 0);
+        self.have -= self.at;
         self.at = 0;
         let got = input.read(&mut self.buf[self.have..])?;
         self.have += got;

@@ -15,16 +15,16 @@ pub use kept::Kept;
 
 // What answers an item of N bytes by M bytes.
 pub trait Answers<const N: usize, const M: usize> {
-    // What an item may be answered by, from one state to another.
+    // What an item may be answered by, from one state to another: anything where an implementation does not say it, and neither of this
+    // repository's two does.
     ghost gives: { Self → List ℕ → List ℕ → Self → Type 0 } = { λ _ _ _ _. ⊤ };
 
     fn answer(&mut self, item: &[u8; N]) -> [u8; M]
         ensures { gives self.old item.now result self.new };
 }
 
-// Has each item of the input answered, until it ends; bytes at its end that are no whole item are left out. Items and answers of more
-// than 65536 bytes are an error. When a read or a write fails is said by no contract of std, nor what a write that failed left in its writer:
-// so `broken_off` says neither.
+// Has each item of the input answered, until it ends; bytes at its end that are no whole item are left out. No contract of std says when a
+// read or a write fails, or what a write that failed left in its writer: so `broken_off` says neither.
 pub fn drive<const N: usize, const M: usize, A: Answers<N, M>, R: Read, W: Write>(
     machine: &mut A,
     input: &mut R,
@@ -33,6 +33,7 @@ pub fn drive<const N: usize, const M: usize, A: Answers<N, M>, R: Read, W: Write
     ensures answered { OnOk result (Answered A.gives N M machine.old machine.new (R.remaining input.old) (R.remaining input.new) (W.contents output.old) (W.contents output.new)) }
     ensures broken_off { OnErr result (BrokenOff A.gives N M machine.old machine.new (R.remaining input.old) (R.remaining input.new)) }
 {
+    // An error, and no clause on N and M: no public function of this repository has a `requires`.
     if 65536 < N || 65536 < M {
         return Err(io::Error::from(io::ErrorKind::InvalidInput));
     }
@@ -52,6 +53,6 @@ pub fn drive<const N: usize, const M: usize, A: Answers<N, M>, R: Read, W: Write
             }
         }
     }
-    // As many turns as no run has.
+    // No run has as many turns as this.
     Err(io::Error::from(io::ErrorKind::Other))
 }

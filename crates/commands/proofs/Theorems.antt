@@ -1,4 +1,5 @@
 pub mod Laws
+pub mod Named
 pub mod More
 pub mod RoundTrip
 pub mod Examples

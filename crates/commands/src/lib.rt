@@ -1,15 +1,17 @@
 // The bench program's commands: a byte and its operands, big-endian.
 #![tactic(auto)]
 
-ghost use Rattle.std.specs.Prelude.{◌≡◌, ◌+◌, ◌≤◌, ◌<◌, ◌⊎◌, length, drop, MatchOption};
+ghost use Rattle.std.specs.Prelude.{◌≡◌, ◌+◌, ◌^◌, ◌≤◌, ◌<◌, ◌⊎◌, length, MatchOption, option_map, unwrap_or};
 ghost use Rattle.commands.specs.Decode as D;
 
 use analog::types::Acceleration;
 use calls::types::{Call, Starting, Timed};
 use i2c::types::Levels;
+use registers::fields::has;
 use time::Time;
 
-// A start, whose image stays in the input; a call of the host; or no command of the list.
+// A start, whose image stays in the input; a call of the host; or no command of the list. `Bad` and no `Option`: a byte that names no
+// command is one of the program's inputs, answered by refusal 7 and used up as the others are.
 #[derive(Clone, Copy)]
 pub enum Command {
     Start(Starting, Time),
@@ -120,22 +122,14 @@ fn flag(command: &[u8], at: usize) -> Option<bool>
     }
 }
 
+// The lines as two bits of a byte, by number.
 #[tactic(auto, unfolding(crate::specs::Decode::bit))]
-fn bit(b: u8, weight: u8) -> bool
-    requires { 0 < weight }
-    ensures { result ≡ D.bit b weight }
-{
-    b / weight % 2 == 1
-}
-
-// The lines as two bits of a byte.
 fn levels(b: u8, scl: u8, sda: u8) -> Levels
-    requires { (0 < scl) × (0 < sda) }
-    ensures { result ≡ D.levels b scl sda }
+    ensures { result ≡ D.levels b (2 ^ scl) (2 ^ sda) }
 {
     Levels {
-        scl: bit(b, scl),
-        sda: bit(b, sda),
+        scl: has(b, scl),
+        sda: has(b, sda),
     }
 }
 
@@ -173,7 +167,7 @@ fn pins(command: &[u8]) -> Option<Command>
     ensures { D.or_bad result ≡ D.pins command.now }
 {
     match *command.get(13)? {
-        b @ 0..=15 => timed(command, Timed::Pins(levels(b, 8, 4), levels(b, 2, 1))),
+        b @ 0..=15 => timed(command, Timed::Pins(levels(b, 3, 2), levels(b, 1, 0))),
         _ => None,
     }
 }
@@ -211,50 +205,42 @@ fn head(bytes: &[u8]) -> Option<Command>
     named(opcode, bytes)
 }
 
-// The command that stands at `at`; beyond the input there is none.
-#[tactic(auto, unfolding(crate::specs::Decode::decoded))]
-pub fn decode(input: &[u8], at: usize) -> Command
-    ensures { result ≡ D.decoded (drop at input.now) }
+// The command at the head of the bytes; a bad one, if they begin with none that is whole.
+pub fn decode(bytes: &[u8]) -> Command
+    ensures { result ≡ D.decoded bytes.now }
 {
-    input.get(at..).and_then(head).unwrap_or(Command::Bad)
+    head(bytes).unwrap_or(Command::Bad)
 }
 
-// How many bytes the command of a timed call is.
-#[tactic(auto, unfolding(crate::specs::Decode::timed_size))]
-fn timed_size(t: Timed) -> usize
-    ensures { result ≡ D.timed_size t }
-{
-    match t {
-        Timed::Accelerations(_) => 25,
-        Timed::Supply(_) => 15,
-        Timed::Due | Timed::Falling => 13,
-        Timed::Rising(_) | Timed::Pins(_, _) => 14,
-    }
-}
-
-// How many bytes the command of a call is.
-#[tactic(auto, unfolding(crate::specs::Decode::call_size))]
-fn call_size(c: Call) -> usize
-    ensures { result ≡ D.call_size c }
-{
-    match c {
-        Call::At(_, t) => timed_size(t),
-        Call::Temperature(_) => 5,
-        Call::Select(_) | Call::View(_) => 2,
-        Call::StoredImage(_, _) => 13,
+impl Command {
+    // The opcode that it begins with; a bad one has none.
+    #[tactic(auto, unfolding(crate::specs::Decode::size, crate::specs::Decode::call_size, crate::specs::Decode::timed_size, crate::specs::Decode::opcode_size))]
+    fn opcode(self) -> Option<Opcode>
+        ensures { D.size self ≡ unwrap_or (option_map D.opcode_size result) 1 }
+    {
+        match self {
+            Command::Start(Starting::Checked, _) => Some(Opcode::Start),
+            Command::Host(Call::At(_, Timed::Accelerations(_))) => Some(Opcode::Accelerations),
+            Command::Host(Call::Temperature(_)) => Some(Opcode::Temperature),
+            Command::Host(Call::At(_, Timed::Supply(_))) => Some(Opcode::Supply),
+            Command::Host(Call::At(_, Timed::Due)) => Some(Opcode::Due),
+            Command::Host(Call::Select(_)) => Some(Opcode::Select),
+            Command::Host(Call::At(_, Timed::Rising(_))) => Some(Opcode::Rising),
+            Command::Host(Call::At(_, Timed::Falling)) => Some(Opcode::Falling),
+            Command::Host(Call::At(_, Timed::Pins(_, _))) => Some(Opcode::Pins),
+            Command::Host(Call::StoredImage(_, _)) => Some(Opcode::StoredImage),
+            Command::Host(Call::View(_)) => Some(Opcode::View),
+            Command::Start(Starting::Stored, _) => Some(Opcode::StartStored),
+            Command::Bad => None,
+        }
     }
 }
 
 // How many bytes a command is; a bad one takes its first.
-#[tactic(auto, unfolding(crate::specs::Decode::size))]
 pub fn size(c: Command) -> usize
     ensures { result ≡ D.size c }
 {
-    match c {
-        Command::Start(_, _) => 32,
-        Command::Host(call) => call_size(call),
-        Command::Bad => 1,
-    }
+    c.opcode().map_or(1, Opcode::size)
 }
 
 // Whether a command is refused with number 7.

@@ -4,6 +4,7 @@ use Rattle.std.proofs.Common.{sym, ap, ◌∙◌, arith, length-drop}
 use borrow.Author.Tests.{lt-ltb, le-ltb, ltb-true, ltb-false, ne_eqb}
 use Rattle.std.proofs.Math.ListN.{length, length-append, get_or-append}
 use Rattle.std.proofs.lemmas.List.{drop-append-le, take-append-le}
+use Rattle.std.proofs.lemmas.Bool.{true≢false}
 use Rattle.time.specs.declared.Time.{Time}
 use Rattle.calls.specs.declared.types.Timed.{Timed}
 use Rattle.calls.specs.declared.types.Call.{Call}
@@ -11,7 +12,8 @@ use Rattle.calls.specs.declared.types.Starting.{Starting}
 use Rattle.commands.specs.declared.Command.{Command}
 use Rattle.commands.specs.declared.Opcode.{Opcode}
 use Rattle.commands.specs.declared.UnknownByte.{UnknownByte}
-use Rattle.commands.specs.Decode.{part, big, number_at, moment_at, signed_at, byte_at, within, either_of, lines, start, image, accelerations, temperature, supply, due, select, rising, falling, pins, stored_image, view, opcode, named, named_by, decoded, opcode_size, size_by, wants, timed, timed_size, call_size, size, is_bad}
+use Rattle.commands.proofs.Theorems.Named.{operands, named_is, opcode_size_bounds, operands_sized, sized_fits}
+use Rattle.commands.specs.Decode.{part, big, number_at, moment_at, signed_at, byte_at, within, image, opcode, named, named_by, decoded, opcode_size, size_by, wants, timed_size, call_size, size, is_bad}
 
 -- ---- what follows does not alter the command at the head
 
@@ -34,23 +36,8 @@ moment_before a l m h =
 
 -- ---- every first byte wants a byte at least
 
-opcode_size_some : (o : Opcode) → 0 < opcode_size o
-unfolding opcode_size
-opcode_size_some Opcode.Start = omega arith
-opcode_size_some Opcode.Accelerations = omega arith
-opcode_size_some Opcode.Temperature = omega arith
-opcode_size_some Opcode.Supply = omega arith
-opcode_size_some Opcode.Due = omega arith
-opcode_size_some Opcode.Select = omega arith
-opcode_size_some Opcode.Rising = omega arith
-opcode_size_some Opcode.Falling = omega arith
-opcode_size_some Opcode.Pins = omega arith
-opcode_size_some Opcode.StoredImage = omega arith
-opcode_size_some Opcode.View = omega arith
-opcode_size_some Opcode.StartStored = omega arith
-
 size_by_some : (r : Result Opcode UnknownByte) → 0 < size_by r
-size_by_some (Ok o) = opcode_size_some o
+size_by_some (Ok o) = (opcode_size_bounds o).0
 size_by_some (Err e) = omega arith
 
 pub wants_some : (c : ℕ) → 0 < wants c
@@ -59,23 +46,8 @@ wants_some c = size_by_some (opcode c)
 
 -- ---- and the longest command has 32
 
-opcode_size_few : (o : Opcode) → opcode_size o ≤ 32
-unfolding opcode_size
-opcode_size_few Opcode.Start = omega arith
-opcode_size_few Opcode.Accelerations = omega arith
-opcode_size_few Opcode.Temperature = omega arith
-opcode_size_few Opcode.Supply = omega arith
-opcode_size_few Opcode.Due = omega arith
-opcode_size_few Opcode.Select = omega arith
-opcode_size_few Opcode.Rising = omega arith
-opcode_size_few Opcode.Falling = omega arith
-opcode_size_few Opcode.Pins = omega arith
-opcode_size_few Opcode.StoredImage = omega arith
-opcode_size_few Opcode.View = omega arith
-opcode_size_few Opcode.StartStored = omega arith
-
 size_by_few : (r : Result Opcode UnknownByte) → size_by r ≤ 32
-size_by_few (Ok o) = opcode_size_few o
+size_by_few (Ok o) = (opcode_size_bounds o).1
 size_by_few (Err e) = omega arith
 
 pub wants_few : (c : ℕ) → wants c ≤ 32
@@ -91,9 +63,7 @@ data Has (l : List ℕ) (n : ℕ) : Command → Type 0 where
 
 bad_is : is_bad Command.Bad ≡ false → ⊥
 unfolding is_bad
-bad_is e =
-    let z : ◌≡◌ {A = ℕ} 1 0 = ap (λ (b : Bool). cond b 1 0) e in
-    omega arith
+bad_is e = true≢false e
 
 module _ (l m : List ℕ) where
   has_within : (n : ℕ) (c : Command) (t : Bool) → ltb (length l) n ≡ t → Has l n (cond t Command.Bad c) → n ≤ length l
@@ -117,65 +87,23 @@ module _ (l m : List ℕ) where
   b_same : (a : ℕ) → a < length l → byte_at a (l ++ m) ≡ byte_at a l
   b_same a h = get_or-append l m 0 a h
 
-  start_same : (by : Starting) → Has l 32 (start by l) → start by (l ++ m) ≡ start by l
-  unfolding start
-  start_same by = same 32 _ _ (λ p. rw (t_same (omega arith)))
-
-  accelerations_same : Has l 25 (accelerations l) → accelerations (l ++ m) ≡ accelerations l
-  unfolding accelerations
-  accelerations_same =
-      same 25 _ _ (λ p. rw (t_same (omega arith), z_same 13 (omega arith), z_same 17 (omega arith), z_same 21 (omega arith)))
-
-  temperature_same : Has l 5 (temperature l) → temperature (l ++ m) ≡ temperature l
-  unfolding temperature
-  temperature_same = same 5 _ _ (λ p. rw (z_same 1 p))
-
-  supply_same : Has l 15 (supply l) → supply (l ++ m) ≡ supply l
-  unfolding supply
-  supply_same = same 15 _ _ (λ p. rw (t_same (omega arith), number_before 13 2 l m p))
-
-  due_same : Has l 13 (due l) → due (l ++ m) ≡ due l
-  unfolding due
-  due_same = same 13 _ _ (λ p. rw (t_same p))
-
-  select_same : Has l 2 (select l) → select (l ++ m) ≡ select l
-  unfolding select
-  select_same = same 2 _ _ (λ p. rw (b_same 1 (omega arith)))
-
-  rising_same : Has l 14 (rising l) → rising (l ++ m) ≡ rising l
-  unfolding rising
-  rising_same = same 14 _ _ (λ p. rw (t_same (omega arith), b_same 13 (omega arith)))
-
-  falling_same : Has l 13 (falling l) → falling (l ++ m) ≡ falling l
-  unfolding falling
-  falling_same = same 13 _ _ (λ p. rw (t_same p))
-
-  pins_same : Has l 14 (pins l) → pins (l ++ m) ≡ pins l
-  unfolding pins
-  pins_same = same 14 _ _ (λ p. rw (t_same (omega arith), b_same 13 (omega arith)))
-
-  stored_image_same : Has l 13 (stored_image l) → stored_image (l ++ m) ≡ stored_image l
-  unfolding stored_image
-  stored_image_same = same 13 _ _ (λ p. rw (t_same p))
-
-  view_same : Has l 2 (view l) → view (l ++ m) ≡ view l
-  unfolding view
-  view_same = same 2 _ _ (λ p. rw (b_same 1 (omega arith)))
+  operands_same : (o : Opcode) → opcode_size o ≤ length l → operands o (l ++ m) ≡ operands o l
+  unfolding opcode_size operands
+  operands_same Opcode.Start p = rw (t_same (omega arith))
+  operands_same Opcode.Accelerations p = rw (t_same (omega arith), z_same 13 (omega arith), z_same 17 (omega arith), z_same 21 (omega arith))
+  operands_same Opcode.Temperature p = rw (z_same 1 p)
+  operands_same Opcode.Supply p = rw (t_same (omega arith), number_before 13 2 l m p)
+  operands_same Opcode.Due p = rw (t_same p)
+  operands_same Opcode.Select p = rw (b_same 1 (omega arith))
+  operands_same Opcode.Rising p = rw (t_same (omega arith), b_same 13 (omega arith))
+  operands_same Opcode.Falling p = rw (t_same p)
+  operands_same Opcode.Pins p = rw (t_same (omega arith), b_same 13 (omega arith))
+  operands_same Opcode.StoredImage p = rw (t_same p)
+  operands_same Opcode.View p = rw (b_same 1 (omega arith))
+  operands_same Opcode.StartStored p = rw (t_same (omega arith))
 
   named_same : (o : Opcode) → Has l (opcode_size o) (named o l) → named o (l ++ m) ≡ named o l
-  unfolding named opcode_size
-  named_same Opcode.Start = start_same Starting.Checked
-  named_same Opcode.Accelerations = accelerations_same
-  named_same Opcode.Temperature = temperature_same
-  named_same Opcode.Supply = supply_same
-  named_same Opcode.Due = due_same
-  named_same Opcode.Select = select_same
-  named_same Opcode.Rising = rising_same
-  named_same Opcode.Falling = falling_same
-  named_same Opcode.Pins = pins_same
-  named_same Opcode.StoredImage = stored_image_same
-  named_same Opcode.View = view_same
-  named_same Opcode.StartStored = start_same Starting.Stored
+  named_same o g = rw (named_is o l, named_is o (l ++ m)) (same (opcode_size o) (operands o l) (operands o (l ++ m)) (operands_same o) (rw (named_is o l) at g))
 
   named_by_same : (r : Result Opcode UnknownByte) → Has l (size_by r) (named_by r l) → named_by r (l ++ m) ≡ named_by r l
   named_by_same (Ok o) g = named_same o g
@@ -239,75 +167,10 @@ module _ (l : List ℕ) (some : 0 < length l) where
   by_test n c h true e = bad_fits
   by_test n c h false e = omega (arith, ltb-false (length l) n e)
 
-  in_fits : (n : ℕ) (c : Command) → size c ≤ n → size (within n l c) ≤ length l
-  in_fits n c h = by_test n c h (ltb (length l) n) refl
-
-  start_fits : (by : Starting) → size (start by l) ≤ length l
-  unfolding start size
-  start_fits by = in_fits 32 _ (omega arith)
-
-  accelerations_fits : size (accelerations l) ≤ length l
-  unfolding accelerations size call_size timed_size
-  accelerations_fits = in_fits 25 _ (omega arith)
-
-  temperature_fits : size (temperature l) ≤ length l
-  unfolding temperature size call_size
-  temperature_fits = in_fits 5 _ (omega arith)
-
-  supply_fits : size (supply l) ≤ length l
-  unfolding supply size call_size timed_size
-  supply_fits = in_fits 15 _ (omega arith)
-
-  due_fits : size (due l) ≤ length l
-  unfolding due size call_size timed_size
-  due_fits = in_fits 13 _ (omega arith)
-
-  either_small : (n b : ℕ) (low high : Command) → 1 ≤ n → size low ≤ n → size high ≤ n → size (either_of b low high) ≤ n
-  unfolding size
-  either_small n b low high h p q = either (eqb b 0) low _ p (either (eqb b 1) high Command.Bad q h)
-
-  select_fits : size (select l) ≤ length l
-  unfolding select size call_size
-  select_fits = in_fits 2 _ (either_small 2 (byte_at 1 l) (Command.Host (Call.Select false)) (Command.Host (Call.Select true)) (omega arith) (omega arith) (omega arith))
-
-  rising_fits : size (rising l) ≤ length l
-  unfolding rising size call_size timed_size
-  rising_fits = in_fits 14 _ (either_small 14 (byte_at 13 l) (timed l (Timed.Rising false)) (timed l (Timed.Rising true)) (omega arith) (omega arith) (omega arith))
-
-  falling_fits : size (falling l) ≤ length l
-  unfolding falling size call_size timed_size
-  falling_fits = in_fits 13 _ (omega arith)
-
-  lines_small : (b : ℕ) → size (lines l b) ≤ 14
-  unfolding size call_size timed_size
-  lines_small b = either (ltb 15 b) Command.Bad _ (omega arith) (omega arith)
-
-  pins_fits : size (pins l) ≤ length l
-  unfolding pins
-  pins_fits = in_fits 14 _ (lines_small (byte_at 13 l))
-
-  stored_image_fits : size (stored_image l) ≤ length l
-  unfolding stored_image size call_size
-  stored_image_fits = in_fits 13 _ (omega arith)
-
-  view_fits : size (view l) ≤ length l
-  unfolding view size call_size
-  view_fits = in_fits 2 _ (omega arith)
-
   named_fits : (o : Opcode) → size (named o l) ≤ length l
-  unfolding named
-  named_fits Opcode.Start = start_fits Starting.Checked
-  named_fits Opcode.Accelerations = accelerations_fits
-  named_fits Opcode.Temperature = temperature_fits
-  named_fits Opcode.Supply = supply_fits
-  named_fits Opcode.Due = due_fits
-  named_fits Opcode.Select = select_fits
-  named_fits Opcode.Rising = rising_fits
-  named_fits Opcode.Falling = falling_fits
-  named_fits Opcode.Pins = pins_fits
-  named_fits Opcode.StoredImage = stored_image_fits
-  named_fits Opcode.View = view_fits
-  named_fits Opcode.StartStored = start_fits Starting.Stored
+  named_fits o =
+      rw (named_is o l)
+      (by_test (opcode_size o) (operands o l) (sized_fits (opcode_size o) (operands o l) (opcode_size_bounds o).0 (operands_sized o l)) (ltb (length l) (opcode_size o)) refl)
 
   named_by_fits : (r : Result Opcode UnknownByte) → size (named_by r l) ≤ length l
   named_by_fits (Ok o) = named_fits o
