@@ -14,9 +14,9 @@ is_whole over l = leb (if over then 1 else wants (get_or l 0 0)) (length l)
 abbrev pub block : (trace over : Bool) → Bma150 → (l : List ℕ) → Running Bma150
 block trace over s l = M.block (bench trace) over s l
 
--- what `run` answers: the sensor, the bytes read, where the text ends, and whether it stopped
-abbrev pub after_block : (sensor : Bma150) (read written : ℕ) (stop : Bool) → Ran
-after_block sensor read written stop = record { sensor = sensor; read = read; written = written; stop = stop }
+-- what `run` answers: the sensor, the bytes read, and whether it stopped
+abbrev pub after_block : (sensor : Bma150) (read : ℕ) (stop : Bool) → Ran
+after_block sensor read stop = record { sensor = sensor; read = read; stop = stop }
 
 abbrev pub answer : ℕ → Running Bma150 → Ran
-answer n b = after_block b.state (n - length b.left) (length b.text) b.stop
+answer n b = after_block b.state (n - length b.left) b.stop

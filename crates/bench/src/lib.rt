@@ -1,13 +1,12 @@
 // The bench program's library: commands to calls, replies to lines, and the run over a block of input.
 #![tactic(auto)]
 
-ghost use Rattle.std.specs.Prelude.{◌≡◌, not, cond, ◌&&◌, ◌||◌, ◌+◌, ◌≤◌, eqb, length, drop};
-ghost use Rattle.std.proofs.lemmas.List.Edits.{sets};
-ghost use Rattle.machine.specs.Put.{Put};
+ghost use Rattle.std.specs.Prelude.{◌≡◌, not, cond, ◌&&◌, ◌||◌, ◌≤◌, eqb, length, drop};
 ghost use Rattle.bench.specs.Block as B;
 
 use crate::steps::serve;
 use crate::text::Line;
+use arrayvec::ArrayVec;
 use bma150::host::Bma150;
 use commands::{Opcode, decode, is_bad, size, wants};
 
@@ -16,23 +15,22 @@ mod steps;
 mod text;
 pub mod types;
 
-// After a block: the sensor, the bytes read, the bytes written, and whether refusal 7 stopped it.
+// After a block: the sensor, the bytes read, and whether refusal 7 stopped it.
 #[derive(Clone, Copy)]
 pub struct Ran {
     pub sensor: Bma150,
     pub read: usize,
-    pub written: usize,
     pub stop: bool,
 }
 
-// Whether the command at `at` is whole: its bytes are there, or no more come and one is.
+// Whether the command at the head is whole: its bytes are there, or no more come and one is.
 #[tactic(auto, unfolding(crate::specs::Block::is_whole), using(crate::specs::Theorems::Loop::none_left))]
-pub fn is_whole(input: &[u8], at: usize, over: bool) -> bool
-    ensures { result ≡ B.is_whole over (drop at input.now) }
+pub fn is_whole(bytes: &[u8], over: bool) -> bool
+    ensures { result ≡ B.is_whole over bytes.now }
 {
-    match input.get(at..) {
-        Some(left @ [first, ..]) => over || wants(*first) <= left.len(),
-        _ => false,
+    match bytes {
+        [first, ..] => over || wants(*first) <= bytes.len(),
+        [] => false,
     }
 }
 
@@ -44,46 +42,39 @@ fn turned(trace: bool, lent: bool, b: u8) -> bool
     trace && lent != matches!(Opcode::try_from(b), Ok(Opcode::Due | Opcode::Pins))
 }
 
-// Writes a line at `at`, and answers where it ends.
-fn store(out: &mut [u8; 65536], at: usize, line: &Line) -> usize
-    requires { at ≤ 65408 }
-    ensures put { Put out.old at line.now out.new result }
-    ensures fits { result ≤ 65536 }
-{
-    let text = line.text();
-    let end = at + text.len();
-    out[at..end].copy_from_slice(text);
-    end
-}
-
-// The commands of a block of input, while a whole one is left and a line fits.
-pub fn run(input: &[u8], over: bool, trace: bool, out: &mut [u8; 65536], mut sensor: Bma150) -> Ran
+// The commands of a block of input, while a whole one is left and a line fits; their lines are what stands in `out` then.
+pub fn run(
+    input: &[u8],
+    over: bool,
+    trace: bool,
+    out: &mut ArrayVec<u8, 65536>,
+    mut sensor: Bma150,
+) -> Ran
     ensures value { result ≡ B.answer (length input.now) (B.block trace over sensor input.now) }
-    ensures out_after { out.new ≡ sets out.old 0 (B.block trace over sensor input.now).text }
+    ensures text { out.new.items ≡ (B.block trace over sensor input.now).text }
     ensures input_value { (B.block trace over sensor input.now).left ≡ drop result.read input.now }
-    ensures read_in_bounds { (result.read ≤ length input.now) × (result.written ≤ 65536) }
+    ensures read_in_bounds { result.read ≤ length input.now }
 {
-    let mut read = 0;
-    let mut written = 0;
+    let mut left = input;
     let mut stop = false;
     let mut lent = false;
-    while !stop && written <= 65408 && is_whole(input, read, over) {
-        let b = input[read];
-        let left = &input[read..];
-        let command = decode(left, 0);
+    out.clear();
+    while !stop && out.len() <= 65408 && is_whole(left, over) {
+        let b = left[0];
+        let command = decode(left);
         let reply = serve(sensor, command, left, lent);
         let mut line = Line::new();
         line.reply(trace, b, reply);
+        // There is room for it.
+        let _ = out.try_extend_from_slice(line.text());
         sensor = reply.sensor;
-        read += size(command);
-        written = store(out, written, &line);
+        left = &left[size(command)..];
         stop = is_bad(command);
         lent = turned(trace, lent, b);
     }
     Ran {
         sensor,
-        read,
-        written,
+        read: input.len() - left.len(),
         stop,
     }
 }

@@ -38,7 +38,7 @@ fn word(why: Refusal) -> &'static [u8]
 fn bit(b: bool) -> u8
     ensures { result ≡ T.bit b }
 {
-    if b { b'1' } else { b'0' }
+    b'0' + u8::from(b)
 }
 
 #[tactic(auto, unfolding(bma150::specs::Values::drive_letter))]

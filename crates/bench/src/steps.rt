@@ -42,7 +42,7 @@ fn silent(sensor: Bma150, outcome: Result<(), Refusal>) -> Reply
 }
 
 // The start of either command. `by` and `when` are the command's, `image` is lent from its input: no struct has the three before they are
-// handed to a call, which takes two of them.
+// handed to a call, which takes two of them. A `match`, though each call hands its `Starting` on: these two are the calls that a host has.
 fn begun(by: Starting, when: Time, image: &[u8]) -> Replied
     ensures outcome_value { R.number result.outcome ≡ K.start_number by when image.now }
     ensures sensor_value { result.sensor ≡ K.after_start by when image.now }

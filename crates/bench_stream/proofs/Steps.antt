@@ -1,7 +1,6 @@
 -- What the functions of a turn do, as turns.
-use Rattle.std.specs.Prelude.{◌≡◌, refl, Bool, true, false, cond, List, [], ◌++◌, ℕ, ◌≤◌, eqb, length, take, drop, Option, None, Some, Result, Ok, Err, OnOk, is_ok, get_or, ◌<◌}
-use Rattle.std.proofs.Common.{sym, subst, ◌∙◌, arith, eqb-true}
-use Rattle.std.proofs.lemmas.List.Edits.{sets}
+use Rattle.std.specs.Prelude.{◌≡◌, refl, Bool, true, false, cond, List, [], ◌++◌, ℕ, ◌≤◌, eqb, length, drop, Option, None, Some, Result, Ok, Err, OnOk, is_ok, get_or, ◌<◌}
+use Rattle.std.proofs.Common.{sym, subst, ◌∙◌, inl, inr, arith, eqb-true}
 use Rattle.std.specs.Io.KnownBytes.{Appends, Consumes, Keeps, IsAtEnd}
 use Rattle.std.proofs.KnownBytes.{Appends-nil, Consumes-nil, Consumes-kept}
 use Rattle.machine.specs.Block as M
@@ -12,7 +11,7 @@ use Rattle.bench.specs.Theorems.Loop as L
 use Rattle.bench_stream.specs.declared.Failed.{Failed}
 use Rattle.bench_stream.specs.declared.Turn.{Turn}
 use Rattle.bench_stream.specs.Loop.{goes_on, Enough, arrived, cut_off, Did, Wrote, Stepped}
-use Rattle.bench_stream.proofs.Theorems.Turn.{contrary, going, shown}
+use Rattle.bench_stream.proofs.Theorems.Turn.{contrary, going}
 
 -- what a result says that is known to be `Ok`
 pub on_ok : {T E P : Type 0} (r : Result T E) → is_ok r ≡ true → OnOk r P → P
@@ -31,41 +30,40 @@ module _ (trace : Bool) (t : Turn) (k : List ℕ) where
   module _ (p : goes_on t k ≡ true) (more : t.over ≡ false) (few : is_whole false k ≡ false) {a b : Option (List ℕ)} {l : List ℕ} (o : List ℕ) (v : Option (List ℕ)) where
     -- a read brought a piece
     pub read : {n : ℕ} (piece : List ℕ) → l ≡ k ++ piece → length piece ≡ n → Consumes a b piece → (n ≡ 0 → length k < 65536 → IsAtEnd b)
-        → Stepped trace t k (record { over = eqb n 0; stop = t.stop; failed = t.failed; written = 0; sensor = t.sensor }) l o a b v v
+        → Stepped trace t k (record { over = eqb n 0; stop = t.stop; failed = t.failed; sensor = t.sensor }) l o a b v v
     read {n} piece e f h z =
-        let is : ◌≡◌ {A = Turn} (record { over = eqb n 0; stop = t.stop; failed = t.failed; written = 0; sensor = t.sensor }) (arrived (length piece) t.sensor) =
+        let is : ◌≡◌ {A = Turn} (record { over = eqb n 0; stop = t.stop; failed = t.failed; sensor = t.sensor }) (arrived (length piece) t.sensor) =
         rw (f, (going t k p).not_stopped, (going t k p).not_failed) refl in
         turned (arrived (length piece) t.sensor) is
-        (rw e (record { piece = piece; text = []; did = Did.read piece more few; shown = refl; took = h; all = λ y s. z (sym f ∙ eqb-true (length piece) 0 y) (room few); wrote = Appends-nil v }))
+        (rw e (record { piece = piece; text = []; did = Did.read piece more few; shown = inl refl; took = h; all = λ y s. z (sym f ∙ eqb-true (length piece) 0 y) (room few); wrote = Appends-nil v }))
 
     -- or failed
     pub cut : l ≡ k → Keeps a b
-        → Stepped trace t k (record { over = t.over; stop = t.stop; failed = Some Failed.Read; written = 0; sensor = t.sensor }) l o a b v v
+        → Stepped trace t k (record { over = t.over; stop = t.stop; failed = Some Failed.Read; sensor = t.sensor }) l o a b v v
     cut e h =
-        let is : ◌≡◌ {A = Turn} (record { over = t.over; stop = t.stop; failed = Some Failed.Read; written = 0; sensor = t.sensor }) (cut_off t.sensor) =
+        let is : ◌≡◌ {A = Turn} (record { over = t.over; stop = t.stop; failed = Some Failed.Read; sensor = t.sensor }) (cut_off t.sensor) =
         rw (more, (going t k p).not_stopped) refl in
         turned (cut_off t.sensor) is
-        (rw e (record { piece = []; text = []; did = Did.failed more few; shown = refl; took = Consumes-kept a a b [] (Consumes-nil a) h; all = λ y s. contrary y; wrote = Appends-nil v }))
+        (rw e (record { piece = []; text = []; did = Did.failed more few; shown = inl refl; took = Consumes-kept a a b [] (Consumes-nil a) h; all = λ y s. contrary y; wrote = Appends-nil v }))
 
   -- a block was served
   wrote : (taken : Bool) (v w : Option (List ℕ)) (text : List ℕ) → (taken ≡ true → Appends v w text) → Wrote (cond taken None (Some Failed.Write)) v w text
   wrote true v w text h = h refl
   wrote false v w text h = tt
 
-  pub served : (r : Ran) (d : List ℕ) {e l : List ℕ} (f : Option Failed) (taken : Bool) (v w : Option (List ℕ)) → Enough t k
-      → r ≡ answer (length k) (block trace t.over t.sensor k) → e ≡ sets d 0 (block trace t.over t.sensor k).text → (block trace t.over t.sensor k).left ≡ drop r.read k
-      → r.read ≤ length k → r.written ≤ 65536 → length e ≡ 65536 → l ≡ drop r.read k → f ≡ cond taken None (Some Failed.Write) → (taken ≡ true → Appends v w (take r.written e))
-      → (a : Option (List ℕ)) → Stepped trace t k (record { over = t.over; stop = r.stop; failed = f; written = r.written; sensor = r.sensor }) l e a a v w
-  served r d {e} {l} f taken v w enough is out left within fits size lis fis h a =
+  pub served : (r : Ran) {e l : List ℕ} (f : Option Failed) (taken : Bool) (v w : Option (List ℕ)) → Enough t k
+      → r ≡ answer (length k) (block trace t.over t.sensor k) → e ≡ (block trace t.over t.sensor k).text → (block trace t.over t.sensor k).left ≡ drop r.read k
+      → r.read ≤ length k → l ≡ drop r.read k → f ≡ cond taken None (Some Failed.Write) → (taken ≡ true → Appends v w e)
+      → (a : Option (List ℕ)) → Stepped trace t k (record { over = t.over; stop = r.stop; failed = f; sensor = r.sensor }) l e a a v w
+  served r {e} {l} f taken v w enough is out left within lis fis h a =
       let text : List ℕ = (block trace t.over t.sensor k).text in
-      let front : take r.written e ≡ text = shown d (block trace t.over t.sensor k) (length k) size out is fits in
       rw (lis, fis)
       (record {
         piece = [];
         text = text;
         did = Did.served r taken enough within is left;
-        shown = front;
+        shown = inr out;
         took = Consumes-nil a;
         all = λ y s. s y;
-        wrote = wrote taken v w text (λ (y : taken ≡ true). subst (Appends v w) front (h y));
+        wrote = wrote taken v w text (λ (y : taken ≡ true). subst (Appends v w) out (h y));
       })

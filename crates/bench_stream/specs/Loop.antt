@@ -1,5 +1,5 @@
 -- What the bench program's loop does: turns, each of which reads, or serves a block and hands its text to `write`.
-use Rattle.std.specs.Prelude.{◌≡◌, Bool, true, false, not, ◌&&◌, ◌||◌, ◌⊎◌, List, [], ◌++◌, ℕ, ◌+◌, ◌-◌, ◌^◌, ◌≤◌, ltb, eqb, length, take, drop, Option, None, Some, is_none, if◌then◌else◌}
+use Rattle.std.specs.Prelude.{◌≡◌, Bool, true, false, not, ◌&&◌, ◌||◌, ◌⊎◌, List, [], ◌++◌, ℕ, ◌+◌, ◌-◌, ◌^◌, ◌≤◌, ltb, eqb, length, drop, Option, None, Some, is_none, if◌then◌else◌}
 use Rattle.std.specs.Io.KnownBytes.{Appends, Consumes, IsAtEnd}
 use Rattle.sensor.specs.Image.{stock}
 use Rattle.calls.specs.declared.types.Starting.TheVariants as Starting
@@ -16,7 +16,7 @@ beginning = after_start Starting.Checked (record { 0 = 0; 1 = 0 }) stock
 
 -- with no byte kept
 abbrev pub first : Turn
-first = record { over = false; stop = false; failed = None; written = 0; sensor = beginning }
+first = record { over = false; stop = false; failed = None; sensor = beginning }
 
 -- something is left to do: not stopped, no read and no write has failed, and more may come or bytes are kept
 unfoldable pub goes_on : Turn → (kept : List ℕ) → Bool
@@ -28,15 +28,15 @@ Enough t kept = (t.over ≡ true) ⊎ (is_whole false kept ≡ true)
 
 -- after a read of `got` bytes; none are the input's end
 abbrev pub arrived : (got : ℕ) → Bma150 → Turn
-arrived got s = record { over = eqb got 0; stop = false; failed = None; written = 0; sensor = s }
+arrived got s = record { over = eqb got 0; stop = false; failed = None; sensor = s }
 
 -- after a read that failed: that is not the input's end
 abbrev pub cut_off : Bma150 → Turn
-cut_off s = record { over = false; stop = false; failed = Some Failed.Read; written = 0; sensor = s }
+cut_off s = record { over = false; stop = false; failed = Some Failed.Read; sensor = s }
 
 -- after a block, whose text was handed to `write`, which took it or not
 abbrev pub served_by : Turn → Ran → (taken : Bool) → Turn
-served_by t r taken = record { over = t.over; stop = r.stop; failed = if taken then None else Some Failed.Write; written = r.written; sensor = r.sensor }
+served_by t r taken = record { over = t.over; stop = r.stop; failed = if taken then None else Some Failed.Write; sensor = r.sensor }
 
 -- the bytes that a block leaves of those kept
 abbrev pub left_by : Ran → (kept : List ℕ) → List ℕ
@@ -55,12 +55,12 @@ Wrote None old new text = Appends old new text
 Wrote (Some Failed.Read) old new text = Appends old new text
 Wrote (Some Failed.Write) old new text = Unit {0}
 
--- a turn's piece is what the input lost, from a to b, and nothing is left where it is over with this turn; its text is what the output got, from v to w, and stands at the front of the buffer o for text, as many bytes as the turn says
+-- a turn's piece is what the input lost, from a to b, and nothing is left where it is over with this turn; its text is what the output got, from v to w, and, where there is any, what stands in the buffer o for text
 pub record Stepped (trace : Bool) (t : Turn) (k : List ℕ) (u : Turn) (l o : List ℕ) (a b v w : Option (List ℕ)) : Type 0 where
   pub piece : List ℕ
   pub text : List ℕ
   pub did : Did trace t k u l piece text
-  pub shown : take u.written o ≡ text
+  pub shown : (text ≡ []) ⊎ (o ≡ text)
   pub took : Consumes a b piece
   pub all : u.over ≡ true → (t.over ≡ true → IsAtEnd a) → IsAtEnd b
   pub wrote : Wrote u.failed v w text

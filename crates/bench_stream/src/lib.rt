@@ -7,11 +7,12 @@ ghost use Rattle.std.specs.Io.KnownBytes.{Keeps};
 ghost use Rattle.bench.specs.Block.{is_whole};
 ghost use Rattle.bench_stream.specs.Loop as S;
 
+use arrayvec::ArrayVec;
 use bench::{is_whole, run};
 use blocks::Kept;
 use bma150::host::Bma150;
 use sensor::image::stock;
-use std::io;
+use std::fmt;
 use std::io::{Read, Write};
 use time::Time;
 
@@ -22,14 +23,24 @@ pub enum Failed {
     Write,
 }
 
-// Between two turns. `over`: no more input comes; `stop`: refusal 7 was met; `failed`: what the last turn could not do; `written`: the
-// bytes of text that it made.
+impl fmt::Display for Failed {
+    fn fmt<W: fmt::Write>(&self, f: &mut fmt::Formatter<W>) -> fmt::Result {
+        match self {
+            Failed::Read => write!(
+                f,
+                "a read of standard input failed; the commands before it are answered"
+            ),
+            Failed::Write => write!(f, "a write to standard output failed; lines are missing"),
+        }
+    }
+}
+
+// Between two turns. `over`: no more input comes; `stop`: refusal 7 was met; `failed`: what the last turn could not do.
 #[derive(Clone, Copy)]
 pub struct Turn {
     pub over: bool,
     pub stop: bool,
     pub failed: Option<Failed>,
-    pub written: usize,
     pub sensor: Bma150,
 }
 
@@ -42,37 +53,33 @@ fn more<R: Read>(input: &mut R, kept: &mut Kept, trace: bool, t: Turn) -> Turn
     match kept.fill(input) {
         Ok(got) => Turn {
             over: got == 0,
-            written: 0,
             ..t
         },
         Err(_) => Turn {
             failed: Some(Failed::Read),
-            written: 0,
             ..t
         },
     }
 }
 
 // A block on the kept bytes. Its text is handed to `write`; a write that fails ends the loop.
-// `kept` and `out` stand apart here and below. One struct of both was tried: the length of its array is no fact after a call, so `run` would
-// have to say it in a clause of its own, and `more` would still take `kept` alone.
+// `kept` and `out` stand apart here and below, since `more` takes `kept` alone, and `run` lends the bytes of one to write the other.
 fn commands<W: Write>(
     output: &mut W,
     kept: &mut Kept,
-    out: &mut [u8; 65536],
+    out: &mut ArrayVec<u8, 65536>,
     trace: bool,
     t: Turn,
 ) -> Turn
     requires { S.Enough t kept.old }
-    ensures { (a : Option (List ℕ)) → S.Stepped trace t kept.old result kept.new out.new a a (W.contents output.old) (W.contents output.new) }
+    ensures { (a : Option (List ℕ)) → S.Stepped trace t kept.old result kept.new out.new.items a a (W.contents output.old) (W.contents output.new) }
 {
     let ran = run(kept.bytes(), t.over, trace, out, t.sensor);
     kept.skip(ran.read);
-    let taken = output.write_all(&out[..ran.written]).is_ok();
+    let written = output.write_all(out.as_slice());
     Turn {
         stop: ran.stop,
-        failed: if taken { None } else { Some(Failed::Write) },
-        written: ran.written,
+        failed: written.err().map(|_| Failed::Write),
         sensor: ran.sensor,
         ..t
     }
@@ -83,14 +90,14 @@ fn step<R: Read, W: Write>(
     input: &mut R,
     output: &mut W,
     kept: &mut Kept,
-    out: &mut [u8; 65536],
+    out: &mut ArrayVec<u8, 65536>,
     trace: bool,
     t: Turn,
 ) -> Turn
     requires { S.goes_on t kept.old ≡ true }
-    ensures { S.Stepped trace t kept.old result kept.new out.new (R.remaining input.old) (R.remaining input.new) (W.contents output.old) (W.contents output.new) }
+    ensures { S.Stepped trace t kept.old result kept.new out.new.items (R.remaining input.old) (R.remaining input.new) (W.contents output.old) (W.contents output.new) }
 {
-    if t.over || is_whole(kept.bytes(), 0, false) {
+    if t.over || is_whole(kept.bytes(), false) {
         commands(output, kept, out, trace, t)
     } else {
         more(input, kept, trace, t)
@@ -112,7 +119,6 @@ fn begin() -> Turn
         over: false,
         stop: false,
         failed: None,
-        written: 0,
         sensor: Bma150::start(Time(0, 0), &stock()).sensor,
     }
 }
@@ -122,7 +128,7 @@ fn turns<R: Read, W: Write>(
     input: &mut R,
     output: &mut W,
     kept: &mut Kept,
-    out: &mut [u8; 65536],
+    out: &mut ArrayVec<u8, 65536>,
     trace: bool,
 ) -> Turn
     requires { kept.old ≡ [] }
@@ -138,15 +144,6 @@ fn turns<R: Read, W: Write>(
     t
 }
 
-// A read or a write that failed, said on standard error.
-fn complain<E: Write>(errors: &mut E, what: Failed) -> io::Result<()> {
-    errors.write_all(match what {
-        Failed::Read =>
-            b"bench: a read of standard input failed; the commands before it are answered\n",
-        Failed::Write => b"bench: a write to standard output failed; lines are missing\n",
-    })
-}
-
 // Commands from standard input, lines to standard output, what failed to standard error; the answer is the loop's last state.
 pub fn stream<R: Read, W: Write, E: Write>(
     input: &mut R,
@@ -159,11 +156,11 @@ pub fn stream<R: Read, W: Write, E: Write>(
     ensures silent { result.failed ≡ None → Keeps (E.contents errors.old) (E.contents errors.new) }
 {
     let mut kept = Kept::new();
-    let mut out = [0; 65536];
+    let mut out = ArrayVec::new();
     let t = turns(input, output, &mut kept, &mut out, trace);
     if let Some(what) = t.failed {
         // There is nowhere to tell that this failed.
-        let _ = complain(errors, what);
+        let _ = writeln!(errors, "bench: {what}");
     }
     t
 }

@@ -1,4 +1,3 @@
-pub mod Put
 pub mod Machine
 pub mod Block
 pub mod Pieces

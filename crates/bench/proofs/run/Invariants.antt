@@ -1,13 +1,10 @@
-use Rattle.std.proofs.Common.{◌-◌, ◌≤◌, length}
+use Rattle.std.proofs.Common.{length}
 use Rattle.machine.proofs.Theorems.Blocks.{Upto}
 use Rattle.bench.specs.Run.{bench}
 use Rattle.bench.proofs.run.Given as goal
 
 abbrev pub invariant-loop-stop : goal.invariant-loop-stop
-invariant-loop-stop l =
-    (l.read ≤ length l.input)
-    × (l.written ≤ 65536)
-    × Upto (bench l.trace) l.over l.initial.sensor l.input l.initial.out l.out l.sensor l.read l.written l.stop
+invariant-loop-stop l = Upto (bench l.trace) l.over l.initial.sensor l.input l.sensor l.left l.out.items l.stop
 
 abbrev pub decreases-loop-stop : goal.decreases-loop-stop
-decreases-loop-stop l = length l.input - l.read
+decreases-loop-stop l = length l.left

@@ -1,15 +1,12 @@
 -- What the loop of `run` does, command by command.
-use Rattle.std.specs.Prelude.{◌≡◌, refl, Bool, true, false, List, ℕ, ◌+◌, ◌-◌, ◌≤◌, ◌<◌, length, drop, get_or}
-use Rattle.std.proofs.Common.{sym, ap, subst, ◌∙◌, arith, zero-add, leb-true, leb-false, le-leb, length-drop}
-use Rattle.std.proofs.lemmas.List.Edits.{sets}
-use Rattle.machine.specs.Put.{Put}
+use Rattle.std.specs.Prelude.{◌≡◌, refl, Bool, true, false, List, ◌++◌, ℕ, ◌-◌, ◌≤◌, ◌<◌, length, drop, get_or}
+use Rattle.std.proofs.Common.{ap, subst, ◌∙◌, arith, leb-true, leb-false, le-leb}
 use Rattle.machine.specs.Machine.{Running, running}
 use Rattle.machine.specs.Block as M
 use Rattle.machine.proofs.Theorems.Blocks as T
 use Rattle.machine.proofs.Theorems.Blocks.{Upto}
 use Rattle.commands.specs.declared.Command.{Command}
 use Rattle.commands.specs.Decode.{decoded, image, size, is_bad}
-use Rattle.commands.proofs.Theorems.Laws.{head_drop}
 use Rattle.commands.proofs.Theorems.More.{size_pos, size_fits}
 use Rattle.bma150.specs.declared.host.Bma150.{Bma150}
 use Rattle.bma150.specs.Called.{Called}
@@ -33,56 +30,47 @@ pub some : (over : Bool) (l : List ℕ) → is_whole over l ≡ true → 0 < len
 some over l e = omega (arith, enough false over l e, T.least_some (lawful false) over l)
 
 -- once the input is over any byte is one
-pub any_whole : (input : List ℕ) (at : ℕ) → at < length input → is_whole true (drop at input) ≡ true
+pub any_whole : (l : List ℕ) → 0 < length l → is_whole true l ≡ true
 unfolding is_whole
-any_whole input at h = let k : 1 ≤ length (drop at input) = simp length-drop (omega arith) in le-leb 1 (length (drop at input)) k
+any_whole l h = le-leb 1 (length l) h
 
--- behind the input's end there is none
-pub none_left : (over : Bool) (input : List ℕ) (at : ℕ) → length input ≤ at → is_whole over (drop at input) ≡ false
-none_left over input at h = by_test (is_whole over (drop at input)) refl
+-- no byte is none
+pub none_left : (over : Bool) (l : List ℕ) → length l < 1 → is_whole over l ≡ false
+none_left over l h = by_test (is_whole over l) refl
   where
-    by_test : (t : Bool) → is_whole over (drop at input) ≡ t → is_whole over (drop at input) ≡ false
-    by_test true e = let z : ⊥ = omega (arith, some over (drop at input) e, length-drop at input) in absurd z
+    by_test : (t : Bool) → is_whole over l ≡ t → is_whole over l ≡ false
+    by_test true e = let z : ⊥ = omega (arith, h, some over l e) in absurd z
     by_test false e = e
 
 -- it takes a byte at least, and no more than what is there
-pub advance : (over : Bool) (input : List ℕ) (at : ℕ) {k : ℕ} {c : Command} → is_whole over (drop at input) ≡ true → c ≡ decoded (drop at input) → k ≡ size c
-    → (at + k ≤ length input) × (1 ≤ k)
-advance over input at {k} {c} h ec ek =
-    let l : 0 < length (drop at input) = some over (drop at input) h in
-    let n : length (drop at input) ≡ length input - at = length-drop at input in
-    let j : size c ≤ length (drop at input) = rw ec (size_fits (drop at input) l) in
-    (omega arith, omega (arith, size_pos c))
+pub advance : (over : Bool) (l : List ℕ) {k : ℕ} {c : Command} → is_whole over l ≡ true → c ≡ decoded l → k ≡ size c → (k ≤ length l) × (1 ≤ k)
+advance over l {k} {c} h ec ek =
+    let j : size c ≤ length l = rw ec (size_fits l (some over l h)) in
+    (omega (arith, ek, j), omega (arith, ek, size_pos c))
 
 -- ---- a command is served and its line written
 
-took_is : (trace : Bool) (n : Bma150) (input : List ℕ) (at : ℕ) (c : Command) (k : Called) → c ≡ decoded (drop at input) → k ≡ commanded n c (image (drop at input))
-    → took trace (get_or input at 0) c k ≡ (bench trace).takes n (drop at input)
-took_is trace n input at c k ec ek =
-    ap (took trace (get_or input at 0) c) ek
-    ∙ ap (λ (x : Command). took trace (get_or input at 0) x (commanded n x (image (drop at input)))) ec
-    ∙ ap (λ (b : ℕ). took trace b (decoded (drop at input)) (commanded n (decoded (drop at input)) (image (drop at input)))) (sym (head_drop at input))
+took_is : (trace : Bool) (n : Bma150) (l : List ℕ) (c : Command) (k : Called) → c ≡ decoded l → k ≡ commanded n c (image l)
+    → took trace (get_or l 0 0) c k ≡ (bench trace).takes n l
+took_is trace n l c k ec ek =
+    ap (took trace (get_or l 0 0) c) ek ∙ ap (λ (x : Command). took trace (get_or l 0 0) x (commanded n x (image l))) ec
 
-module _ (trace : Bool) {over : Bool} {s : Bma150} {input d e : List ℕ} {n : Bma150} {at p : ℕ} where
-  pub went : {f : List ℕ} {q : ℕ} {c : Command} (r : Reply) {k : ℕ} {z : Bool} → Upto (bench trace) over s input d e n at p false → is_whole over (drop at input) ≡ true → p ≤ room
-      → c ≡ decoded (drop at input) → replied r ≡ commanded n c (image (drop at input)) → k ≡ size c → z ≡ is_bad c
-      → Put e p (line trace (get_or input at 0) (replied r)) f q
-      → Upto (bench trace) over s input d f r.sensor (at + k) q z
-  went {f} {q} {c} r {k} {z} b h fits ec er ek ez w =
-      let g : M.least (bench trace) over (drop at input) ≤ length input - at = rw (← length-drop at input) (enough trace over (drop at input) h) in
-      rw (ek, ez) (T.went (lawful trace) (took trace (get_or input at 0) c (replied r)) b g fits (took_is trace n input at c (replied r) ec er) w)
+module _ (trace : Bool) {over : Bool} {s : Bma150} {input : List ℕ} {n : Bma150} {l text : List ℕ} where
+  pub went : {c : Command} (r : Reply) {k : ℕ} {z : Bool} → Upto (bench trace) over s input n l text false → is_whole over l ≡ true → length text ≤ room
+      → c ≡ decoded l → replied r ≡ commanded n c (image l) → k ≡ size c → z ≡ is_bad c
+      → Upto (bench trace) over s input r.sensor (drop k l) (text ++ line trace (get_or l 0 0) (replied r)) z
+  went {c} r {k} {z} b h fits ec er ek ez =
+      rw (ek, ez) (T.went (lawful trace) (took trace (get_or l 0 0) c (replied r)) b (enough trace over l h) fits (took_is trace n l c (replied r) ec er))
 
   -- it has not stopped
-  pub going : {z : Bool} → z ≡ false → Upto (bench trace) over s input d e n at p z → Upto (bench trace) over s input d e n at p false
-  going h b = subst (λ (z : Bool). Upto (bench trace) over s input d e n at p z) h b
+  pub going : {z : Bool} → z ≡ false → Upto (bench trace) over s input n l text z → Upto (bench trace) over s input n l text false
+  going h b = subst (λ (z : Bool). Upto (bench trace) over s input n l text z) h b
 
   -- the loop is left: the block is done
-  pub finished : {z : Bool} (b : Upto (bench trace) over s input d e n at p z) → at ≤ length input
-      → M.pace (bench trace) over (running n (drop at input) b.text z) ≡ running n (drop at input) b.text z
-      → (record { sensor = n; read = at; written = p; stop = z } ≡ answer (length input) (block trace over s input))
-      × (e ≡ sets d 0 (block trace over s input).text)
-      × ((block trace over s input).left ≡ drop at input)
-  finished {z} b h r =
-      let k : length input - (length input - at) ≡ at = omega arith in
+  pub finished : {z : Bool} (b : Upto (bench trace) over s input n l text z) → M.pace (bench trace) over (running n l text z) ≡ running n l text z
+      → (record { sensor = n; read = length input - length l; stop = z } ≡ answer (length input) (block trace over s input))
+      × (text ≡ (block trace over s input).text)
+      × ((block trace over s input).left ≡ drop (length input - length l) input)
+  finished {z} b r =
       let is = T.block_is (lawful trace) b r in
-      (rw (is, length-drop, k, b.bytes.next, zero-add), rw is b.bytes.bytes, ap (λ (x : Running Bma150). x.left) is)
+      (rw is, rw is, ap (λ (x : Running Bma150). x.left) is ∙ (T.left_is b).1)

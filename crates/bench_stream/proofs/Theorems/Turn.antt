@@ -1,14 +1,10 @@
 -- What a turn says of itself.
-use Rattle.std.specs.Prelude.{◌≡◌, refl, Bool, true, false, not, ◌&&◌, ◌||◌, ◌⊎◌, List, ℕ, ◌+◌, ◌≤◌, ltb, length, take, Option, None, Some, is_none, cond}
-use Rattle.std.proofs.Common.{sym, ap, ◌∙◌, inl, inr, ⊎_elim, arith, zero-add, ltb-true, ltb-false}
-use Rattle.std.proofs.lemmas.List.Edits.{sets}
-use Rattle.std.proofs.Math.Seq.{length-sets}
-use Rattle.machine.specs.Machine.{Running}
+use Rattle.std.specs.Prelude.{◌≡◌, refl, Bool, true, false, not, ◌&&◌, ◌||◌, ◌⊎◌, List, ℕ, ◌+◌, ◌≤◌, ltb, length, Option, None, Some, is_none}
+use Rattle.std.proofs.Common.{sym, ap, ◌∙◌, inl, inr, ⊎_elim, arith, ltb-true, ltb-false}
+use Rattle.std.proofs.lemmas.Bool.{false≢true}
 use Rattle.machine.specs.Pieces.{Between, between, AtEnd}
-use Rattle.machine.proofs.Theorems.Put.{text}
 use Rattle.bma150.specs.declared.host.Bma150.{Bma150}
 use Rattle.bench.specs.declared.Ran.{Ran}
-use Rattle.bench.specs.Block.{answer}
 use Rattle.bench_stream.specs.declared.Failed.{Failed}
 use Rattle.bench_stream.specs.declared.Turn.{Turn}
 use Rattle.bench_stream.specs.Loop.{goes_on, cut_off, served_by}
@@ -25,7 +21,7 @@ same_between e f g h = cc
 -- ---- what a turn says of itself
 
 pub contrary : {A : Type 0} → ◌≡◌ {A = Bool} false true → A
-contrary e = let z : ◌≡◌ {A = ℕ} 0 1 = ap (λ (b : Bool). cond b 1 0) e in let y : ⊥ = omega arith in absurd y
+contrary e = absurd (false≢true e)
 
 -- where something is left to do, the loop has not stopped, nothing has failed, and bytes are kept if the input is over
 pub record Going (t : Turn) (kept : List ℕ) : Type 0 where
@@ -86,14 +82,6 @@ at_end t kept e f =
     ⊎_elim (λ (z : t.failed ≡ Some Failed.Write). contrary (sym (ap is_none (sym f ∙ z)))) (λ (z : (t.over ≡ true) × (length kept ≡ 0)). inr z.1) g)
     h)
     (ends_because t kept e)
-
--- the text of a block stands at the front of the buffer for text
-pub shown : (d : List ℕ) {e : List ℕ} {r : Ran} (b : Running Bma150) (n : ℕ) → length e ≡ 65536 → e ≡ sets d 0 b.text → r ≡ answer n b → r.written ≤ 65536 → take r.written e ≡ b.text
-shown d {e} {r} b n size is an fits =
-    let w : r.written ≡ length b.text = ap (λ (q : Ran). q.written) an in
-    let same : length e ≡ length d = ap length is ∙ length-sets d 0 b.text in
-    let h : 0 + length b.text ≤ length d = omega arith in
-    text h (record { bytes = is; next = w ∙ sym (zero-add (length b.text)) })
 
 pub add_one_over : (k l r : ℕ) → l ≡ r + 1 → k + 1 + r ≡ k + l
 add_one_over k l r e = omega arith

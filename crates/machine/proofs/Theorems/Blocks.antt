@@ -11,10 +11,8 @@ use borrow.Author.Tests.{lt-ltb, le-ltb, ltb-true, ltb-false}
 use Rattle.std.proofs.Math.ListN.{length, length-drop}
 use Rattle.std.proofs.Math.Seq.{drop-drop}
 use Rattle.laws.specs.Iterate.{iterate, iterate_split}
-use Rattle.machine.specs.Put.{Put}
 use Rattle.machine.specs.Machine.{Took, Machine, Running, running, turn, Lawful}
 use Rattle.machine.specs.Block.{least, pace, block}
-use Rattle.machine.proofs.Theorems.Put.{none, ◌then◌}
 use Rattle.machine.proofs.Theorems.Turns.{Goes, stay, and_then, one, turn_at}
 use Rattle.machine.proofs.Theorems.Settles.{never_more, settle}
 
@@ -73,42 +71,52 @@ module _ {S : Type 0} (m : Machine S) (over : Bool) (b : Running S) where
   pace_falls : Lawful m → (pace m over b ≡ b) ⊎ (length (pace m over b).left + 1 ≤ length b.left)
   pace_falls laws = by_tests laws (ltb (length b.left) (least m over b.left)) (ltb m.room (length b.text)) refl refl
 
--- ---- what the loop over a block has done so far: the bytes up to `at` are read, and the text stands in the buffer up to p
+-- ---- what the loop over a block has done so far: this is left of the input, and this text is made
 
-pub record Upto {S : Type 0} (m : Machine S) (over : Bool) (s : S) (input d e : List ℕ) (n : S) (at p : ℕ) (z : Bool) : Type 0 where
+pub record Upto {S : Type 0} (m : Machine S) (over : Bool) (s : S) (input : List ℕ) (n : S) (left text : List ℕ) (z : Bool) : Type 0 where
   pub turns : ℕ
-  pub text : List ℕ
-  pub is : iterate turns (pace m over) (running s input [] false) ≡ running n (drop at input) text z
-  pub bytes : Put d 0 text e p
+  pub is : iterate turns (pace m over) (running s input [] false) ≡ running n left text z
+  pub at : ℕ
+  pub within : at ≤ length input
+  pub rest : left ≡ drop at input
 
-pub begun : {S : Type 0} {m : Machine S} {over : Bool} {s : S} {input d : List ℕ} → Upto m over s input d d s 0 0 false
+pub begun : {S : Type 0} {m : Machine S} {over : Bool} {s : S} {input : List ℕ} → Upto m over s input s input [] false
 unfolding iterate
-begun = record { turns = 0; text = []; is = refl; bytes = none }
+begun = record { turns = 0; is = refl; at = 0; within = omega arith; rest = refl }
 
-module _ {S : Type 0} {m : Machine S} (laws : Lawful m) {over : Bool} {s : S} {input d e : List ℕ} {n : S} {at p : ℕ} where
+module _ {S : Type 0} {m : Machine S} (laws : Lawful m) {over : Bool} {s : S} {input : List ℕ} {n : S} {left text : List ℕ} where
   -- a further command
-  pub went : {f : List ℕ} {q : ℕ} (k : Took S) → Upto m over s input d e n at p false → least m over (drop at input) ≤ length input - at → p ≤ m.room
-      → k ≡ m.takes n (drop at input) → Put e p k.said f q → Upto m over s input d f k.state (at + k.size) q k.stop
+  pub went : (k : Took S) → Upto m over s input n left text false → least m over left ≤ length left → length text ≤ m.room
+      → k ≡ m.takes n left → Upto m over s input k.state (drop k.size left) (text ++ k.said) k.stop
   unfolding iterate
-  went k b g fits ek w =
-      let l : least m over (drop at input) ≤ length (drop at input) = simp length-drop (omega arith) in
-      let some : 0 < length (drop at input) = omega (arith, least_some laws over (drop at input)) in
-      let fill : length b.text ≤ m.room = omega (arith, b.bytes.next) in
+  went k b l fits ek =
+      let some : 0 < length left = omega (arith, l, least_some laws over left) in
+      let there : k.size ≤ length left = rw ek (laws.takes_there n left some) in
+      let long : length left ≡ length input - b.at = ap length b.rest ∙ length-drop b.at input in
       record {
         turns = suc b.turns;
-        text = b.text ++ k.said;
         is = ap (pace m over) b.is
-            ∙ pace_turn m over (running n (drop at input) b.text false) l fill
-            ∙ turn_at m n (drop at input) b.text some
-            ∙ rw (sym ek, drop-drop k.size at input);
-        bytes = b.bytes then w;
+            ∙ pace_turn m over (running n left text false) l fits
+            ∙ turn_at m n left text some
+            ∙ rw (sym ek);
+        at = b.at + k.size;
+        within = omega (arith, there, long, b.within);
+        rest = ap (drop k.size) b.rest ∙ drop-drop k.size b.at input;
       }
 
   -- the loop is left: the block is done
-  pub block_is : {z : Bool} (b : Upto m over s input d e n at p z) → pace m over (running n (drop at input) b.text z) ≡ running n (drop at input) b.text z
-      → block m over s input ≡ running n (drop at input) b.text z
+  pub block_is : {z : Bool} (b : Upto m over s input n left text z) → pace m over (running n left text z) ≡ running n left text z
+      → block m over s input ≡ running n left text z
   unfolding block
-  block_is {z} b h = settle (pace m over) (λ c. pace_falls m over c laws) (running s input [] false) (running n (drop at input) b.text z) b.turns b.is h
+  block_is {z} b h = settle (pace m over) (λ c. pace_falls m over c laws) (running s input [] false) (running n left text z) b.turns b.is h
+
+-- what is left is the input without the bytes that were read
+pub left_is : {S : Type 0} {m : Machine S} {over : Bool} {s : S} {input : List ℕ} {n : S} {left text : List ℕ} {z : Bool} → Upto m over s input n left text z
+    → (length left ≤ length input) × (left ≡ drop (length input - length left) input)
+left_is {S} {m} {over} {s} {input} {n} {left} b =
+    let long : length left ≡ length input - b.at = ap length b.rest ∙ length-drop b.at input in
+    let e : b.at ≡ length input - length left = omega (arith, long, b.within) in
+    (omega (arith, long), b.rest ∙ ap (λ (i : ℕ). drop i input) e)
 
 -- ---- a block takes a command that it may take
 
