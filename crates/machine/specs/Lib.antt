@@ -1,3 +1,4 @@
+pub mod Put
 pub mod Machine
 pub mod Block
 pub mod Pieces
