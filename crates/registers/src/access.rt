@@ -1,5 +1,5 @@
-// Which writes are ignored, which begin a stored write, and which reads are withheld. Addresses are the bytes that a bus sends, in
-// the data sheet's numbers: the constants of `fields` are indexes, and bounds of ranges have no names there.
+// Which writes are ignored, which begin a stored write, and which reads are withheld. Addresses are the bytes that a bus sends, in the
+// data sheet's numbers: the constants of `fields` are indexes.
 ghost use Rattle.std.specs.Prelude.{◌≡◌};
 ghost use Rattle.registers.specs.Access.{unwritable, working, stored, image_blocks, sleep_blocks, locked, ignores, begins, unreadable, withheld};
 
