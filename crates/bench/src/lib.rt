@@ -15,6 +15,9 @@ mod steps;
 mod text;
 pub mod types;
 
+// How many bytes of text a block makes, at most.
+pub const TEXT: usize = 65536;
+
 // After a block: the sensor, the bytes read, and whether refusal 7 stopped it.
 #[derive(Clone, Copy)]
 pub struct Ran {
@@ -47,7 +50,7 @@ pub fn run(
     input: &[u8],
     over: bool,
     trace: bool,
-    out: &mut ArrayVec<u8, 65536>,
+    out: &mut ArrayVec<u8, TEXT>,
     mut sensor: Bma150,
 ) -> Ran
     ensures value { result ≡ B.answer (length input.now) (B.block trace over sensor input.now) }

@@ -8,7 +8,7 @@ ghost use Rattle.bench.specs.Block.{is_whole};
 ghost use Rattle.bench_stream.specs.Loop as S;
 
 use arrayvec::ArrayVec;
-use bench::{is_whole, run};
+use bench::{TEXT, is_whole, run};
 use blocks::Kept;
 use bma150::host::Bma150;
 use sensor::image::stock;
@@ -67,7 +67,7 @@ fn more<R: Read>(input: &mut R, kept: &mut Kept, trace: bool, t: Turn) -> Turn
 fn commands<W: Write>(
     output: &mut W,
     kept: &mut Kept,
-    out: &mut ArrayVec<u8, 65536>,
+    out: &mut ArrayVec<u8, TEXT>,
     trace: bool,
     t: Turn,
 ) -> Turn
@@ -90,7 +90,7 @@ fn step<R: Read, W: Write>(
     input: &mut R,
     output: &mut W,
     kept: &mut Kept,
-    out: &mut ArrayVec<u8, 65536>,
+    out: &mut ArrayVec<u8, TEXT>,
     trace: bool,
     t: Turn,
 ) -> Turn
@@ -128,7 +128,7 @@ fn turns<R: Read, W: Write>(
     input: &mut R,
     output: &mut W,
     kept: &mut Kept,
-    out: &mut ArrayVec<u8, 65536>,
+    out: &mut ArrayVec<u8, TEXT>,
     trace: bool,
 ) -> Turn
     requires { kept.old ≡ [] }

@@ -2,6 +2,7 @@
 ghost use Rattle.std.specs.Prelude.{◌≡◌, [], drop};
 ghost use Rattle.blocks.specs.Kept.{Filled};
 
+use crate::SIZE;
 use std::io;
 use std::io::Read;
 use std::marker::Model;
@@ -9,7 +10,7 @@ use std::marker::Model;
 // They stand from `at` to `have`.
 #[derive(Drop)]
 pub struct Kept {
-    buf: [u8; 65536],
+    buf: [u8; SIZE],
     at: usize,
     have: usize,
 }
@@ -29,7 +30,7 @@ impl Kept {
         ensures { result ≡ [] }
     {
         Kept {
-            buf: [0; 65536],
+            buf: [0; SIZE],
             at: 0,
             have: 0,
         }

@@ -8,6 +8,9 @@ use crate::pending::Pending;
 use std::io;
 use std::io::{Read, Write};
 
+// How many bytes are kept, and how many wait to be written, at most.
+pub(crate) const SIZE: usize = 65536;
+
 mod kept;
 mod pending;
 
@@ -34,7 +37,7 @@ pub fn drive<const N: usize, const M: usize, A: Answers<N, M>, R: Read, W: Write
     ensures broken_off { OnErr result (BrokenOff A.gives N M machine.old machine.new (R.remaining input.old) (R.remaining input.new)) }
 {
     // An error, and no clause on N and M: no public function of this repository has a `requires`.
-    if 65536 < N || 65536 < M {
+    if SIZE < N || SIZE < M {
         return Err(io::Error::from(io::ErrorKind::InvalidInput));
     }
     let mut kept = Kept::new();

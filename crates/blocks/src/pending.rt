@@ -3,13 +3,14 @@ ghost use Rattle.std.specs.Prelude.{◌≡◌, ◌≤◌, [], length, OnOk};
 ghost use Rattle.std.specs.Io.KnownBytes.{Appends};
 ghost use Rattle.blocks.specs.Pending.{Handed};
 
+use crate::SIZE;
 use arrayvec::ArrayVec;
 use std::io;
 use std::io::Write;
 use std::marker::Model;
 
 #[derive(Drop)]
-pub(crate) struct Pending(ArrayVec<u8, 65536>);
+pub(crate) struct Pending(ArrayVec<u8, SIZE>);
 
 impl Model for Pending {
     ghost use Rattle.std.specs.Prelude.{ℕ, List};
@@ -38,7 +39,7 @@ impl Pending {
 
     // Puts a text behind them; where there is no room for it, they are handed to the writer first.
     pub(crate) fn put<W: Write>(&mut self, output: &mut W, text: &[u8]) -> io::Result<()>
-        requires { length text.now ≤ 65536 }
+        requires { length text.now ≤ SIZE }
         ensures { OnOk result (Handed (W.contents output.old) (W.contents output.new) self.old text.now self.new) }
     {
         if self.0.try_extend_from_slice(text).is_err() {

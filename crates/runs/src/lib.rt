@@ -1,2 +1,2 @@
-// No code: lists of calls, the write book and demand 3, in specs/.
+// No code: demand 3 and what is delivered, the code as a host, and runs that complete a register write, in specs/.
 #![tactic(auto)]

@@ -16,7 +16,7 @@ returns-then-branch-eq0-clause-answered g c =
     let none = c.if-branch-eq0.true in
     let few : length c.loop.kept < g.row.N = rw (← c.bytes.ensures) c.in-None.ensures.cases in
     let short : length c.fill.new.self < g.row.N = rw (y.1, length-append) (omega (arith, y.2, none, few)) in
-    let fits : g.row.N ≤ 65536 = omega (arith, c.if-this-gt65536.false) in
+    let fits : g.row.N ≤ 65536 = omega (arith, c.if-this-gt-SIZE.false) in
     done _ _ _ _ (filled _ _ _ _ (flushed _ _ _ _ c.loop.invariant x.taken x.none_left) y.0 y.1 y.3) short (y.4 none (omega (arith, few, fits))) x.none_left
 
 pub loop-preserved : goal.loop-preserved
@@ -29,8 +29,8 @@ loop-preserved g c = elim c.match-first_chunk.branch [
       rw (w.machine-is, w.input-is, w.output-is, w.kept-is, w.pending-is) (filled _ _ _ _ (flushed _ _ _ _ c.loop.invariant x.taken x.none_left) y.0 y.1 y.3)
 ]
 
-pub returns-then-this-gt65536-clause-broken_off : goal.returns-then-this-gt65536-clause-broken_off
-returns-then-this-gt65536-clause-broken_off g c = unbegun _ _ _ _ _
+pub returns-then-this-gt-SIZE-clause-broken_off : goal.returns-then-this-gt-SIZE-clause-broken_off
+returns-then-this-gt-SIZE-clause-broken_off g c = unbegun _ _ _ _ _
 
 pub returns-in_err-put-in-Some-clause-broken_off : goal.returns-in_err-put-in-Some-clause-broken_off
 returns-in_err-put-in-Some-clause-broken_off g c =

@@ -1,6 +1,7 @@
 -- The text of every input is the lines of its commands, in order.
 use Rattle.std.specs.Prelude.{◌≡◌, Bool, cond, ◌⊎◌}
 use Rattle.std.proofs.Math.Path.{refl, subst}
+use Rattle.std.proofs.lemmas.Bool.{true≢false}
 use Rattle.std.proofs.Common.{sym, ap, ◌∙◌, inr, ⊎_elim, le_refl, arith}
 use Rattle.std.proofs.Math.Bool.{true, false}
 use Rattle.std.proofs.Math.Logic.{inl}
@@ -24,9 +25,6 @@ use Rattle.printed.specs.Commands.{Given, first_commands, commands, lines}
 empty : (l : List ℕ) → length l ≡ 0 → l ≡ []
 empty [] e = refl
 empty (b ∷ l) e = absurd (omega arith)
-
-true_not_false : true ≡ false → ⊥
-true_not_false e = let z : ◌≡◌ {A = ℕ} 1 0 = ap (λ (b : Bool). cond b 1 0) e in omega arith
 
 module _ (trace : Bool) where
   -- turns that stop, or leave nothing, and write this text
@@ -93,7 +91,7 @@ module _ (trace : Bool) where
       let r = all_ends s l in
       let is : whole trace s l ≡ running r.state r.left (lines trace s (commands l)) r.stop = whole_is (lawful trace) r.goes r.over in
       ap (λ (b : Running Bma150). b.left) is
-      ∙ ⊎_elim (λ (z : r.stop ≡ true). let y : ⊥ = true_not_false (sym z ∙ sym (ap (λ (b : Running Bma150). b.stop) is) ∙ e) in absurd y) (λ (z : length r.left ≡ 0). empty r.left z) r.over
+      ∙ ⊎_elim (λ (z : r.stop ≡ true). let y : ⊥ = true≢false (sym z ∙ sym (ap (λ (b : Running Bma150). b.stop) is) ∙ e) in absurd y) (λ (z : length r.left ≡ 0). empty r.left z) r.over
 
   -- turns that have not stopped, and then the run over what they leave
   pub goes_on : {s n : Bma150} {l k t : List ℕ} → Goes (bench trace) s l t n k false → (whole trace s l).text ≡ t ++ (whole trace n k).text

@@ -1,5 +1,6 @@
 -- A command that is read from bytes, and is not bad, is what those bytes write: the converse of the round trip.
 use Rattle.std.proofs.Math.Path.{◌≡◌, refl, ap}
+use Rattle.std.proofs.lemmas.Bool.{true≢false}
 use Rattle.std.proofs.Common.{sym, ◌∙◌, pow-suc, zero-mul, one-mul, add-zero, mod-eq_of_lt, add-one}
 use Rattle.std.specs.Prelude.{Bool, eqb, pos, negsuc, drop, get_or, Result, Ok}
 use Rattle.std.proofs.Math.Bool.{true, false, cond}
@@ -143,9 +144,7 @@ module _ (b : ℕ) (m : List ℕ) (all : Bytes (b ∷ m)) where
 
   bad_back : Back Command.Bad
   unfolding is_bad
-  bad_back e =
-      let z : ◌≡◌ {A = ℕ} 1 0 = ap (λ (x : Bool). cond x 1 0) e in
-      absurd (let y : ⊥ = omega arith in y)
+  bad_back e = absurd (true≢false e)
 
   -- its n bytes are there, or it is bad
   there : (n : ℕ) (c : Command) → (n ≤ length l → Back c) → Back (cond (ltb (length l) n) Command.Bad c)
