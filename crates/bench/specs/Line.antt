@@ -7,8 +7,8 @@ use Rattle.calls.specs.declared.types.Starting.{Starting}
 use Rattle.calls.specs.declared.types.Refusal.{Refusal}
 use Rattle.calls.specs.Table as R
 use Rattle.bma150.specs.declared.host.Bma150.{Bma150}
-use Rattle.bma150.specs.Values.{drive_letter, report_values, view_value, mark_letter}
-use Rattle.bma150.specs.Called.{Added, Called, called, start_number, after_start, interrupt, output, data_output, next_due}
+use Rattle.bma150.specs.Values.{drive_letter, report_values}
+use Rattle.bma150.specs.Called.{Added, of_view, Called, called, start_number, after_start, interrupt, output, data_output, next_due}
 use Rattle.bench.specs.declared.types.Extra.{Extra}
 use Rattle.bench.specs.declared.types.Reply.{Reply}
 use Rattle.bench.specs.Text.{space, line_feed, hex, word, bit, view_text, mark_text, report_text, image_text, due_text}
@@ -58,7 +58,7 @@ said trace b s c image = line trace b (commanded s c image)
 
 unfoldable pub extra_adds : Extra → Added
 extra_adds (Extra.Reported report) = Added.report (report_values report)
-extra_adds (Extra.Viewed view mark) = Added.viewed (view_value view) (mark_letter mark)
+extra_adds (Extra.Viewed viewed) = of_view viewed
 extra_adds (Extra.Image image) = Added.put image
 
 abbrev pub adds : Option Extra → Added

@@ -138,16 +138,16 @@ impl Line {
     }
 
     // What a command adds, if it is accepted and adds anything.
-    #[tactic(auto, unfolding(crate::specs::Line::extra_adds, crate::specs::Line::added_text), using(crate::proofs::Appended::both, crate::proofs::Appended::none, crate::proofs::Fits::report_fits, crate::proofs::Fits::viewed_fits))]
+    #[tactic(auto, unfolding(crate::specs::Line::extra_adds, crate::specs::Line::added_text, bma150::specs::Called::of_view), using(crate::proofs::Appended::both, crate::proofs::Appended::none, crate::proofs::Fits::report_fits, crate::proofs::Fits::viewed_fits))]
     fn added(&mut self, answer: Result<Option<Extra>, Refusal>)
         ensures text { self.new ≡ T.appended self.old (L.added_text (L.answer_adds answer)) }
         ensures fits { length (L.added_text (L.answer_adds answer)) ≤ 39 }
     {
         match answer {
             Ok(Some(Extra::Reported(report))) => self.report(report),
-            Ok(Some(Extra::Viewed(view, mark))) => {
-                self.view(view);
-                self.mark(mark);
+            Ok(Some(Extra::Viewed(viewed))) => {
+                self.view(viewed.map(|v| v.byte));
+                self.mark(viewed.and_then(|v| v.mark));
             }
             Ok(Some(Extra::Image(image))) => self.image(&image),
             Ok(None) | Err(_) => {}

@@ -137,10 +137,9 @@ fn timed_either(sensor: Bma150, when: Time, t: Timed, lent: bool) -> Reply
 fn view(sensor: Bma150, address: u8) -> Reply
     ensures { L.replied result ≡ K.called sensor (Call.View address) }
 {
-    let shown = sensor.view(address);
     Reply {
         sensor,
-        answer: Ok(Some(Extra::Viewed(shown.view, shown.mark))),
+        answer: Ok(Some(Extra::Viewed(sensor.view(address)))),
     }
 }
 

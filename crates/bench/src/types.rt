@@ -1,14 +1,14 @@
 // What a command leaves and answers, before it is written.
 use bma150::host::Bma150;
 use calls::types::Refusal;
-use sensor::types::Mark;
+use sensor::types::Viewed;
 use waits::types::Report;
 
 // What a command adds to its line.
 #[derive(Clone, Copy)]
 pub enum Extra {
     Reported(Option<Report>),
-    Viewed(Option<u8>, Option<Mark>),
+    Viewed(Option<Viewed>),
     Image([u8; 19]),
 }
 

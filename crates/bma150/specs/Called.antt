@@ -1,5 +1,5 @@
 -- What a call leaves and answers, for all arguments.
-use Rattle.std.specs.Prelude.{ℕ, ◌-◌, Bool, false, List, [], length, get_or, Option}
+use Rattle.std.specs.Prelude.{ℕ, ◌-◌, Bool, false, List, [], length, get_or, Option, Some, None}
 use Rattle.laws.specs.Notation.{Image}
 use Rattle.time.specs.declared.Time.{Time}
 use Rattle.time.specs.Time.{time}
@@ -60,9 +60,10 @@ reported (Added.report values) = values
 reported (Added.viewed value mark) = []
 reported (Added.put bytes) = []
 
--- the answer of a view
-abbrev pub of_view : Viewed → Added
-of_view v = Added.viewed (view_value v.view) (mark_letter v.mark)
+-- the answer of a view: the byte and its mark, or the absence of both
+unfoldable pub of_view : Option Viewed → Added
+of_view None = Added.viewed (view_value None) (mark_letter None)
+of_view (Some v) = Added.viewed (view_value (Some v.byte)) (mark_letter v.mark)
 
 -- the lent buffer after the call
 unfoldable pub put_in : Added → (buffer : List ℕ) → List ℕ
@@ -107,7 +108,7 @@ unfoldable pub adds : Bma150 → Call → Added
 adds s (Call.At now t) = timed_adds t (served s now t).report
 adds s (Call.Temperature x) = Added.nothing
 adds s (Call.Select on) = Added.nothing
-adds s (Call.View address) = of_view (Reads.viewed s.sensor address)
+adds s (Call.View address) = Added.viewed (view_value (Reads.peek s.sensor address)) (mark_letter (Reads.mark_of (Reads.peek s.sensor address) s.sensor address))
 adds s (Call.StoredImage now n) = Added.put (nonvolatile s.sensor now)
 
 -- ---- any call: a refused one leaves the sensor as it came, and answers only its number

@@ -33,7 +33,7 @@ pub struct Bma150 {
     last: Time,
 }
 
-// 19 lent bytes as an image.
+// 19 lent bytes as an image: a copy, where `try_from` would give a `Result` that is always `Ok`.
 fn image_of(bytes: &[u8]) -> [u8; 19]
     requires { length bytes.now ≡ 19 }
     ensures { result ≡ bytes.now }
@@ -82,25 +82,21 @@ fn started(by: Starting, when: Time, image: &[u8]) -> Replied
     ensures sensor_value { result.sensor ≡ C.after_start by when image.now }
 {
     let outcome = start_refusal(by, when, image.len(), measurement_of(image));
-    if is_accepted(outcome) {
-        return Replied {
-            sensor: Bma150 {
-                sensor: Sensor::from_nonvolatile(when, image_of(image)),
-                last: when,
-            },
-            outcome,
-        };
-    }
-    let first = Time(0, 0);
+    let (last, stored) = if is_accepted(outcome) {
+        (when, image_of(image))
+    } else {
+        (Time(0, 0), stock())
+    };
     Replied {
         sensor: Bma150 {
-            sensor: Sensor::from_nonvolatile(first, stock()),
-            last: first,
+            sensor: Sensor::from_nonvolatile(last, stored),
+            last,
         },
         outcome,
     }
 }
 
+// Each call says in full what it promises, where it is read: most repeat the clauses of `timed` or `started` at their own arguments.
 impl Bma150 {
     pub fn start(when: Time, image: &[u8]) -> Replied
         ensures outcome_value { Table.number result.outcome ≡ C.start_number Starting.Checked when image.now }
@@ -117,6 +113,14 @@ impl Bma150 {
         started(Starting::Stored, when, image)
     }
 
+    // Whether a call is accepted, or why it is refused.
+    fn asked(self, call: Call) -> Result<(), Refusal>
+        ensures { Table.number result ≡ C.number self call }
+    {
+        let due = interaction_deadline(self.sensor);
+        refusal(self.last, due, self.sensor.lines(), call)
+    }
+
     // A timed call.
     #[tactic(auto, unfolding(crate::specs::Values::report_values, crate::specs::Values::report_of, crate::specs::Called::reported, crate::specs::Called::leaves, crate::specs::Called::adds, calls::specs::Table::unless_refused, calls::specs::Table::number), using(calls::proofs::Theorems::Values::refused_number, crate::proofs::Laws::reports_added))]
     pub fn timed(self, now: Time, t: Timed) -> Reported
@@ -124,15 +128,13 @@ impl Bma150 {
         ensures sensor_value { result.sensor ≡ (C.called self (Call.At now t)).sensor }
         ensures report_value { Vals.report_values (Vals.report_of result.answer) ≡ C.reported (C.called self (Call.At now t)).adds }
     {
-        let s = self.sensor;
-        let due = interaction_deadline(s);
-        if let Err(why) = refusal(self.last, due, s.lines(), Call::At(now, t)) {
+        if let Err(why) = self.asked(Call::At(now, t)) {
             return Reported {
                 sensor: self,
                 answer: Err(why),
             };
         }
-        let after = effect(sync_local_until(s, now, false), now, t);
+        let after = effect(sync_local_until(self.sensor, now, false), now, t);
         Reported {
             sensor: Bma150 {
                 sensor: after.sensor,
@@ -206,29 +208,23 @@ impl Bma150 {
         self.timed(now, Timed::Pins(before, after)).into()
     }
 
-    // The byte that a register shows, and whether it is of a mean.
-    #[tactic(auto, unfolding(crate::specs::Called::adds, calls::specs::Table::unless_refused), using(calls::proofs::Theorems::Left::view_accepted))]
-    pub fn view(self, address: u8) -> Viewed
+    // The byte that a register shows, if it is not withheld, and whether it is of a mean.
+    #[tactic(auto, unfolding(crate::specs::Called::adds, calls::specs::Table::unless_refused), using(calls::proofs::Theorems::Left::view_accepted, crate::proofs::Laws::view_added))]
+    pub fn view(self, address: u8) -> Option<Viewed>
         ensures { C.of_view result ≡ (C.called self (Call.View address)).adds }
     {
         self.sensor.viewed(address)
     }
 
     // The stored bytes at a moment, into a lent buffer; the last accepted time stays.
-    #[tactic(auto, unfolding(crate::specs::Called::put_in, crate::specs::Called::adds, calls::specs::Table::unless_refused), using(calls::proofs::Theorems::Left::buffer_length))]
+    #[tactic(auto, unfolding(crate::specs::Called::put_in, crate::specs::Called::adds, calls::specs::Table::unless_refused, calls::specs::Table::number), using(crate::proofs::Laws::buffer_sized, calls::proofs::Theorems::Values::refused_number))]
     pub fn stored_image(self, when: Time, buffer: &mut [u8]) -> Result<(), Refusal>
         ensures result_value { Table.number result ≡ (C.called self (Call.StoredImage when (length buffer.old))).number }
         ensures buffer_after { buffer.new ≡ C.put_in (C.called self (Call.StoredImage when (length buffer.old))).adds buffer.old }
     {
-        let s = self.sensor;
-        let due = interaction_deadline(s);
-        let call = Call::StoredImage(when, buffer.len());
-        let outcome = refusal(self.last, due, s.lines(), call);
-        if is_accepted(outcome) {
-            let image = s.nonvolatile(when);
-            hand_out(buffer, image);
-        }
-        outcome
+        self.asked(Call::StoredImage(when, buffer.len()))?;
+        hand_out(buffer, self.sensor.nonvolatile(when));
+        Ok(())
     }
 
     // The interrupt pin.

@@ -17,7 +17,6 @@ use Rattle.calls.specs.declared.types.Call.{Call}
 use Rattle.calls.specs.Table as T
 use Rattle.calls.proofs.Theorems.Found.{never}
 use Rattle.calls.proofs.Theorems.Exactly.{follows_on}
-use Rattle.calls.proofs.Theorems.Left.{accepted_is, refused_is}
 use Rattle.sensor.specs.declared.types.Kept.{Kept}
 use Rattle.sensor.specs.declared.types.Outage.{Outage}
 use Rattle.sensor.specs.declared.types.Sensor.{Sensor}
@@ -30,6 +29,7 @@ use Rattle.bma150.specs.Called.{effect, leaves, after_start, start_number}
 use Rattle.book.specs.Does.{at_rise, at_pins, with_acceleration, timed_does, does}
 use Rattle.book.specs.Lists.{accepts, step, Start, started, after, accepted, last_kept, kept}
 use Rattle.book.specs.Follows.{timed_levels, call_levels, last_levels, both_high, lines, Follows}
+use Rattle.book.proofs.Call.{after_call}
 use Rattle.book.proofs.Keeps.{Core, core, then, select_core, sync_keeps, rise_synced_keeps, pins_synced_keeps, falling_keeps}
 use Rattle.book.proofs.Pins.{rising_keeps, pins_keeps}
 use Rattle.book.proofs.Parts.{ended, due_is, cut_to, low_to, ok_to, supply_to, supply_is}
@@ -95,11 +95,8 @@ leaves_kept s (Call.View address) = refl
 leaves_kept s (Call.StoredImage now length) = refl
 
 pub step_kept : (s : Bma150) (c : Call) → (step s c).sensor.kept ≡ cond (accepts s c) ((does c).keeps s.sensor.kept) s.sensor.kept
-step_kept s c = go (accepts s c) refl
-  where
-    go : (b : Bool) → accepts s c ≡ b → (step s c).sensor.kept ≡ cond b ((does c).keeps s.sensor.kept) s.sensor.kept
-    go true p = ap (λ (x : Bma150). x.sensor.kept) (accepted_is _ s (leaves s c) p) ∙ leaves_kept s c
-    go false p = ap (λ (x : Bma150). x.sensor.kept) (refused_is _ s (leaves s c) p)
+step_kept s c =
+    after_call (λ t. t.sensor.kept ≡ cond (accepts s c) ((does c).keeps s.sensor.kept) s.sensor.kept) s c (λ p. rw p (leaves_kept s c)) (λ p. rw p)
 
 -- ---- and after a list
 

@@ -1,3 +1,4 @@
+pub mod Call
 pub mod Keeps
 pub mod Pins
 pub mod Parts

@@ -1,5 +1,5 @@
 -- Marks over every list: by induction over the calls.
-use mathlib.Core.Path.{◌≡◌, refl, sym, subst}
+use mathlib.Core.Path.{◌≡◌, refl}
 use mathlib.Core.Bool.{Bool, true, false, cond}
 use mathlib.Core.List.{List, [], ◌∷◌}
 use lib.Dec.{eqb}
@@ -7,7 +7,7 @@ use lib.ListN.{length}
 use Rattle.time.specs.Time.{time}
 use Rattle.calls.specs.declared.types.Call.{Call}
 use Rattle.calls.specs.Table as T
-use Rattle.calls.proofs.Theorems.Left.{accepted_is, refused_is, start_length}
+use Rattle.calls.proofs.Theorems.Left.{start_length}
 use Rattle.sensor.specs.Image.{stock, reset_registers}
 use Rattle.bma150.specs.declared.host.Bma150.{Bma150}
 use Rattle.bma150.specs.Called as Called
@@ -16,18 +16,15 @@ use Rattle.effects.specs.Marks.{Sized, Emptied, Course}
 use Rattle.effects.specs.Theorems.Sizes.{copied_length}
 use Rattle.effects.specs.Theorems.Marks as M
 use Rattle.effects.specs.Theorems.Course.{Marked, joined, course, shows}
-use Rattle.book.specs.Lists.{accepts, step, Start, started, after}
+use Rattle.book.specs.Lists.{step, Start, started, after}
 use Rattle.book.specs.Marks.{MarkedRuns}
+use Rattle.book.proofs.Call.{after_call}
 use Rattle.book.proofs.Walk.{leaves_meets}
 
 -- ---- one call
 
 step_marked : (s : Bma150) (c : Call) → Sized s.sensor → Sized (step s c).sensor × Course s.sensor (step s c).sensor
-step_marked s c h = go (accepts s c) refl
-  where
-    go : (b : Bool) → accepts s c ≡ b → Sized (step s c).sensor × Course s.sensor (step s c).sensor
-    go true p = subst (λ (t : Bma150). Sized t.sensor × Course s.sensor t.sensor) (sym (accepted_is _ s (leaves s c) p)) ((leaves_meets (λ now. Marked) course s c).marked h)
-    go false p = subst (λ (t : Bma150). Sized t.sensor × Course s.sensor t.sensor) (sym (refused_is _ s (leaves s c) p)) (h, Course.here)
+step_marked s c h = after_call (λ t. Sized t.sensor × Course s.sensor t.sensor) s c (λ p. (leaves_meets (λ now. Marked) course s c).marked h) (λ p. (h, Course.here))
 
 -- ---- and a list
 

@@ -3,7 +3,7 @@ use Rattle.std.specs.Prelude.{Option, Some}
 use Prim.Native.Nat.{◌≤◌}
 use native.Mathlib.Nat.{le_trans}
 use native.Mathlib.Omega.{arith}
-use mathlib.Core.Path.{◌≡◌, refl, sym, ap, subst, ◌∙◌}
+use mathlib.Core.Path.{◌≡◌, refl, sym, ap, ◌∙◌}
 use mathlib.Core.Bool.{Bool, true, false, cond}
 use mathlib.Core.List.{List, [], ◌∷◌}
 use lib.Dec.{eqb}
@@ -15,7 +15,7 @@ use Rattle.calls.specs.declared.types.Timed.{Timed}
 use Rattle.calls.specs.declared.types.Call.{Call}
 use Rattle.calls.specs.Facts.{timed_facts, facts}
 use Rattle.calls.specs.Table as T
-use Rattle.calls.proofs.Theorems.Left.{clear, accepted_is, refused_is}
+use Rattle.calls.proofs.Theorems.Left.{clear}
 use Rattle.sensor.specs.Image.{stock}
 use Rattle.samples.specs.Samples.{interaction_deadline}
 use Rattle.bma150.specs.declared.host.Bma150.{Bma150}
@@ -27,6 +27,7 @@ use Rattle.effects.specs.Theorems.Stage.{rest_upto}
 use Rattle.effects.specs.Theorems.Onward as Steps
 use Rattle.book.specs.Lists.{accepts, step, Start, started, after}
 use Rattle.book.specs.Onward.{NotAhead, Onward}
+use Rattle.book.proofs.Call.{after_call}
 use Rattle.book.proofs.Walk.{leaves_meets}
 
 -- no axis is after the last accepted time
@@ -67,11 +68,7 @@ leaves_stands : (s : Bma150) (c : Call) → accepts s c ≡ true → Stands s �
 leaves_stands s c p h = (leaves_meets E.Onward Steps.onward s c).onward (later_upto s.last (leaves s c).last s.sensor.sampling.analog (not_before s c p) h)
 
 step_stands : (s : Bma150) (c : Call) → Stands s → Stands (step s c)
-step_stands s c h = go (accepts s c) refl
-  where
-    go : (b : Bool) → accepts s c ≡ b → Stands (step s c)
-    go true p = subst Stands (sym (accepted_is _ s (leaves s c) p)) (leaves_stands s c p h)
-    go false p = subst Stands (sym (refused_is _ s (leaves s c) p)) h
+step_stands s c h = after_call Stands s c (λ p. leaves_stands s c p h) (λ p. h)
 
 -- ---- and a list
 

@@ -1,5 +1,5 @@
 -- What a write of a register does (the Rust's `write_register`). Addresses are hexadecimal.
-use Rattle.std.specs.Prelude.{ℕ, Bool, eqb, if◌then◌else◌}
+use Rattle.std.specs.Prelude.{ℕ, Bool, eqb, if◌then◌else◌, Option, Some, None}
 use Rattle.std.specs.Bool.{xor}
 use Rattle.laws.specs.Notation.{Byte, Address, cleared}
 use Rattle.registers.specs.Map as Map
@@ -43,12 +43,12 @@ abbrev pub resets_interrupts : (value : Byte) → Bool
 resets_interrupts value = Map.reset_INT value
 
 -- self_test_0 begins the self test where it was clear; written clear it ends it (the Rust's rule)
-unfoldable pub self_test : (old : ℕ) (value : Byte) → SelfTest
-self_test old value = if Map.self_test_0 value then (if Map.self_test_0 old then SelfTest.Stays else SelfTest.Starts) else SelfTest.Stops
+unfoldable pub self_test : (old : ℕ) (value : Byte) → Option SelfTest
+self_test old value = if Map.self_test_0 value then (if Map.self_test_0 old then None else Some SelfTest.Starts) else Some SelfTest.Stops
 
 -- sleep puts an awake sensor to sleep; written clear it wakes a sleeping one (the Rust's rule)
-unfoldable pub sleep : (asleep : Bool) (value : Byte) → Sleep
-sleep asleep value = if Map.sleep value then (if asleep then Sleep.Stays else Sleep.Pauses) else if asleep then Sleep.Wakes else Sleep.Stays
+unfoldable pub sleep : (asleep : Bool) (value : Byte) → Option Sleep
+sleep asleep value = if Map.sleep value then (if asleep then None else Some Sleep.Pauses) else if asleep then Some Sleep.Wakes else None
 
 -- update_image copies the stored image into the working one (data sheet)
 abbrev pub copies_image : (value : Byte) → Bool

@@ -66,27 +66,27 @@ pub fn resets_interrupts(value: u8) -> bool
     has(value, RESET_INT)
 }
 
-// A write of 0a starts or stops the self test.
+// A write of 0a starts or stops the self test, or leaves it.
 #[tactic(auto, unfolding(crate::specs::Kinds::self_test))]
-pub fn self_test(old: u8, value: u8) -> SelfTest
+pub fn self_test(old: u8, value: u8) -> Option<SelfTest>
     ensures { result ≡ Kinds.self_test old value }
 {
     match (has(old, SELF_TEST_0), has(value, SELF_TEST_0)) {
-        (false, true) => SelfTest::Starts,
-        (true, true) => SelfTest::Stays,
-        (_, false) => SelfTest::Stops,
+        (false, true) => Some(SelfTest::Starts),
+        (true, true) => None,
+        (_, false) => Some(SelfTest::Stops),
     }
 }
 
-// A write of 0a wakes the sensor or puts it to sleep.
+// A write of 0a wakes the sensor or puts it to sleep, or does neither.
 #[tactic(auto, unfolding(crate::specs::Kinds::sleep))]
-pub fn sleep(asleep: bool, value: u8) -> Sleep
+pub fn sleep(asleep: bool, value: u8) -> Option<Sleep>
     ensures { result ≡ Kinds.sleep asleep value }
 {
     match (asleep, has(value, SLEEP)) {
-        (true, false) => Sleep::Wakes,
-        (false, true) => Sleep::Pauses,
-        _ => Sleep::Stays,
+        (true, false) => Some(Sleep::Wakes),
+        (false, true) => Some(Sleep::Pauses),
+        _ => None,
     }
 }
 

@@ -1,4 +1,4 @@
-// What a write does, and what a write of 0a does to the self test and to sleep.
+// What a write does. `Ignored` is one of these kinds: an ignored write is what most addresses answer, and each kind is read in one match.
 #[derive(Clone, Copy, Debug, PartialEq, Eq)]
 pub enum WriteKind {
     Ignored,
@@ -11,16 +11,16 @@ pub enum WriteKind {
     Plain,
 }
 
+// What a write of 0a does to the self test, if it does not leave it as it is.
 #[derive(Clone, Copy, Debug, PartialEq, Eq)]
 pub enum SelfTest {
     Starts,
     Stops,
-    Stays,
 }
 
+// What a write of 0a does to sleep, if it does not leave it as it is.
 #[derive(Clone, Copy, Debug, PartialEq, Eq)]
 pub enum Sleep {
     Wakes,
     Pauses,
-    Stays,
 }

@@ -144,7 +144,7 @@ pub data Serves : Bma150 → Call → Bma150 → Answer → Type 0 where
       → Serves s (Call.At now (Timed.Pins before after)) r.sensor (replied r.outcome (Timed.Pins before after) None o)
   pins_lent : {s : Bma150} {now : Time} {before after : Levels} (t : Bma150) (r : Outcome) (o : Pins) → PinsLent s now before after t r → Observed t o
       → Serves s (Call.At now (Timed.Pins before after)) t (replied r (Timed.Pins before after) None o)
-  view : {s : Bma150} {address : ℕ} (r : Viewed) (o : Pins) → view_reads.Post tt (s, (address, tt)) r (s, (address, tt)) → Observed s o
+  view : {s : Bma150} {address : ℕ} (r : Option Viewed) (o : Pins) → view_reads.Post tt (s, (address, tt)) r (s, (address, tt)) → Observed s o
       → Serves s (Call.View address) s (accepted (of_view r) o)
   stored_image : {s : Bma150} {now : Time} {n : ℕ} (κs : Lfts 1) (lent left : MutBor (List ℕ)) (r : Outcome) (o : Pins) → length lent.now ≡ n
       → stored_image_reads.Post κs (s, (now, (lent, tt))) r (s, (now, (left, tt))) → Observed s o

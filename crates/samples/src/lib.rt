@@ -27,10 +27,7 @@ pub fn samples_run(sensor: Sensor) -> bool
 pub fn next_sample(sensor: Sensor) -> Option<Time>
     ensures { result ≡ S.next_sample sensor }
 {
-    if samples_run(sensor) {
-        return Some(sensor.sampling.clock.next());
-    }
-    None
+    samples_run(sensor).then(|| sensor.sampling.clock.next())
 }
 
 #[tactic(auto, unfolding(crate::specs::Samples::sample_due))]
@@ -59,7 +56,8 @@ pub fn interaction_deadline(sensor: Sensor) -> Option<Time>
     next_deadline(sensor, sensor.automatic())
 }
 
-// Advances the sample clock by n edges.
+// Advances the sample clock by n edges. The three parts that samples change go there and come back by name: as two conversions they
+// would be named four times more.
 pub fn after_edges(sensor: Sensor, n: u64) -> Sensor
     ensures { result ≡ S.after_edges sensor n }
 {

@@ -32,9 +32,14 @@ unfoldable pub mark_of : Option ℕ → Sensor → (address : Address) → Optio
 mark_of (Some b) s address = mark s address
 mark_of None s address = None
 
--- what a view answers: the byte or its absence, and the mark
-abbrev pub viewed : Sensor → (address : Address) → Viewed
-viewed s address = record { view = peek s address; mark = mark_of (peek s address) s address }
+-- what a view answers of a byte that is shown or withheld: the byte and its mark, or nothing
+unfoldable pub viewed_as : Option ℕ → Sensor → (address : Address) → Option Viewed
+viewed_as None s address = None
+viewed_as (Some b) s address = Some (record { byte = b; mark = mark s address })
+
+-- what a view answers
+abbrev pub viewed : Sensor → (address : Address) → Option Viewed
+viewed s address = viewed_as (peek s address) s address
 
 -- the address of the low byte of an acceleration
 abbrev pub low_address : (address : Address) → ℕ

@@ -15,6 +15,7 @@ use sampling::types::{Input, Sampling};
 use spi::types::Frame;
 use time::{Clock, Duration, Time};
 
+// The place in the image is worked out here and in `with_cell`: a function for it would need a bound beside its equation.
 #[tactic(auto, unfolding(crate::specs::Image::cell_byte, registers::specs::Access::stored))]
 pub fn cell_byte(image: [u8; 19], address: u8) -> u8
     ensures { result ≡ Im.cell_byte image address }
@@ -50,7 +51,7 @@ impl StoredWrite {
 fn image_copied(mut registers: [u8; 62], image: [u8; 19]) -> [u8; 62]
     ensures { result ≡ Im.image_copied registers image }
 {
-    registers[11..30].copy_from_slice(&image);
+    registers[0x0b..0x1e].copy_from_slice(&image);
     registers
 }
 

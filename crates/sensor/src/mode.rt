@@ -77,10 +77,7 @@ impl Sensor {
     fn pause_end(self, now: Time) -> Option<Time>
         ensures { result ≡ C.pause_end self now }
     {
-        if self.automatic() {
-            return Some(now.plus(self.pause_of()));
-        }
-        None
+        self.automatic().then(|| now.plus(self.pause_of()))
     }
 
     pub fn pause(self, now: Time) -> Sensor

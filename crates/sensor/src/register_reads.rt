@@ -17,7 +17,7 @@ fn low_address(address: u8) -> u8
     2 + axis_of(address) * 2
 }
 
-// Whether the value of an axis is a mean; of no other number is it.
+// Whether the value of an axis is a mean. There are three axes: for any other number the answer is no.
 fn is_mean(means: [bool; 3], axis: u8) -> bool
     ensures { result ≡ get_or means axis false }
 {
@@ -29,7 +29,7 @@ impl Sensor {
     fn shown(self, address: u8) -> u8
         ensures { result ≡ B.shown self address }
     {
-        if address == 9 {
+        if usize::from(address) == STATUS {
             return self.registers[STATUS] | self.interrupts.status();
         }
         byte_at(self.registers, address)
@@ -40,10 +40,7 @@ impl Sensor {
     pub fn peek(self, address: u8) -> Option<u8>
         ensures { result ≡ B.peek self address }
     {
-        if withheld(address, self.gate()) {
-            return None;
-        }
-        Some(self.shown(address))
+        (!withheld(address, self.gate())).then(|| self.shown(address))
     }
 
     // The mark of an acceleration's register.
@@ -61,15 +58,15 @@ impl Sensor {
     }
 
     // What a view answers: the byte, and the mark of an acceleration.
-    #[tactic(auto, unfolding(crate::specs::RegisterReads::mark_of))]
-    pub fn viewed(self, address: u8) -> Viewed
+    #[tactic(auto, unfolding(crate::specs::RegisterReads::viewed_as))]
+    pub fn viewed(self, address: u8) -> Option<Viewed>
         ensures { result ≡ B.viewed self address }
     {
-        let view = self.peek(address);
-        Viewed {
-            view,
-            mark: view.and_then(|_| self.mark(address)),
-        }
+        let byte = self.peek(address)?;
+        Some(Viewed {
+            byte,
+            mark: self.mark(address),
+        })
     }
 
     fn prepared(self, address: u8, viewed: u8) -> Prepared

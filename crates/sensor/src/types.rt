@@ -54,10 +54,10 @@ pub enum Mark {
     Single,
 }
 
-// What a view answers: the byte that the register shows, or none where it is withheld, and the mark of an acceleration that is shown.
+// What a register shows to a view: its byte, and the mark of an acceleration. Where the byte is withheld there is none of this.
 #[derive(Clone, Copy, PartialEq, Eq)]
 pub struct Viewed {
-    pub view: Option<u8>,
+    pub byte: u8,
     pub mark: Option<Mark>,
 }
 

@@ -40,20 +40,14 @@ fn shift_output(sensor: Sensor, at: Clocked) -> Sensor
 fn first_bit_taken(sensor: Sensor, a: Option<u8>) -> Sensor
     ensures { result ≡ Z.first_bit_taken a sensor }
 {
-    match a {
-        Some(r) => sensor.read_began(r),
-        None => sensor,
-    }
+    a.map_or(sensor, |r| sensor.read_began(r))
 }
 
 #[tactic(auto, unfolding(crate::specs::SpiEdges::write_done))]
 fn write_done(sensor: Sensor, write: Option<(u8, u8)>, now: Time) -> Sensor
     ensures { result ≡ Z.write_done write sensor now }
 {
-    match write {
-        Some((a, v)) => write_register(sensor, a, v, now),
-        None => sensor,
-    }
+    write.map_or(sensor, |(a, v)| write_register(sensor, a, v, now))
 }
 
 fn bit_done(mut sensor: Sensor, t: Taken, now: Time) -> Sensor

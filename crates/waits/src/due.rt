@@ -5,7 +5,7 @@ ghost use Rattle.waits.specs.Due as D;
 use crate::supply::{without_report, write_over};
 use crate::types::{Report, Served};
 use deadlines::{is_at, unless_at};
-use registers::fields::CONTROL;
+use registers::fields::{CONTROL, UPDATE_IMAGE};
 use samples::{after_edges, next_sample};
 use sensor::types::{Sensor, StoredWrite};
 use time::{Clock, Duration, Time};
@@ -64,7 +64,7 @@ fn image_loaded(sensor: Sensor) -> Sensor
 {
     let mut s = sensor.copy_image();
     s.deadlines.image = None;
-    s.registers[CONTROL] &= 0xdf;
+    s.registers[CONTROL] &= !(1 << UPDATE_IMAGE);
     s
 }
 

@@ -1,5 +1,5 @@
 -- Register writes (`write_register`).
-use Rattle.std.specs.Prelude.{Bool, true, false, set, if◌then◌else◌, Some, None}
+use Rattle.std.specs.Prelude.{Bool, true, false, set, if◌then◌else◌, Option, Some, None}
 use Rattle.laws.specs.Notation.{Byte, Address}
 use Rattle.time.specs.declared.Time.{Time}
 use Rattle.time.specs.Time.{plus, from_millis, from_micros}
@@ -36,17 +36,17 @@ unfoldable pub interrupts_written : Sensor → (value : Byte) → Sensor
 interrupts_written s value = if Kinds.resets_interrupts value then interrupts_reset s else s
 
 -- the self test lasts four phases and clears st_result until it ends
-unfoldable pub tested : SelfTest → Sensor → Sensor
-tested SelfTest.Starts s =
+unfoldable pub tested : Option SelfTest → Sensor → Sensor
+tested (Some SelfTest.Starts) s =
     with_sampling (with_registers s (set s.registers status (without_st_result (at s.registers status)))) (with_test s.sampling (Some 4))
-tested SelfTest.Stops s = with_sampling s (with_test s.sampling None)
-tested SelfTest.Stays s = s
+tested (Some SelfTest.Stops) s = with_sampling s (with_test s.sampling None)
+tested None s = s
 
 -- a wake is ready after 1 ms
-unfoldable pub slept : Sleep → Sensor → (now : Time) → Sensor
-slept Sleep.Wakes s now = start_acquisition s now (from_millis 1)
-slept Sleep.Pauses s now = pause s now
-slept Sleep.Stays s now = s
+unfoldable pub slept : Option Sleep → Sensor → (now : Time) → Sensor
+slept (Some Sleep.Wakes) s now = start_acquisition s now (from_millis 1)
+slept (Some Sleep.Pauses) s now = pause s now
+slept None s now = s
 
 -- an image copy lasts 300 µs
 unfoldable pub image_written : Sensor → (value : Byte) (now : Time) → Sensor

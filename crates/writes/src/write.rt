@@ -1,5 +1,5 @@
 // Register writes (bma150/control.rs, `write_register`).
-ghost use Rattle.std.specs.Prelude.{◌≡◌};
+ghost use Rattle.std.specs.Prelude.{◌≡◌, true};
 ghost use Rattle.writes.specs.Write as W;
 
 use control::kinds::{
@@ -12,24 +12,29 @@ use sensor::image::shadowing;
 use sensor::types::{Sensor, StoredWrite};
 use time::{Duration, Time};
 
+// st_result, a bit of 09.
+const ST_RESULT: u8 = 7;
+
 #[tactic(auto, unfolding(crate::specs::Write::recounted))]
-fn recounted(mut sensor: Sensor, again: bool) -> Sensor
-    ensures { result ≡ W.recounted sensor again }
+fn recounted(mut sensor: Sensor) -> Sensor
+    ensures { result ≡ W.recounted sensor true }
 {
-    if again {
-        sensor.sampling.auto_cycles = 0;
-        sensor.interrupts = sensor.interrupts.restart_acquisition();
-    }
+    sensor.sampling.auto_cycles = 0;
+    sensor.interrupts = sensor.interrupts.restart_acquisition();
     sensor
 }
 
+#[tactic(auto, unfolding(crate::specs::Write::recounted))]
 fn interrupts_reset(mut sensor: Sensor) -> Sensor
     ensures { result ≡ W.interrupts_reset sensor }
 {
     sensor.sampling.data_ready = false;
     sensor.deadlines.irq_hold = None;
     sensor.interrupts = sensor.interrupts.reset(sensor.registers);
-    recounted(sensor, sensor.automatic())
+    if sensor.automatic() {
+        return recounted(sensor);
+    }
+    sensor
 }
 
 #[tactic(auto, unfolding(crate::specs::Write::interrupts_written))]
@@ -43,28 +48,28 @@ fn interrupts_written(sensor: Sensor, value: u8) -> Sensor
 }
 
 #[tactic(auto, unfolding(crate::specs::Write::tested))]
-fn tested(mut sensor: Sensor, t: SelfTest) -> Sensor
+fn tested(mut sensor: Sensor, t: Option<SelfTest>) -> Sensor
     ensures { result ≡ W.tested t sensor }
 {
     match t {
-        SelfTest::Starts => {
-            sensor.registers[STATUS] &= 0x7f;
+        Some(SelfTest::Starts) => {
+            sensor.registers[STATUS] &= !(1 << ST_RESULT);
             sensor.sampling.test = Some(4);
         }
-        SelfTest::Stops => sensor.sampling.test = None,
-        SelfTest::Stays => {}
+        Some(SelfTest::Stops) => sensor.sampling.test = None,
+        None => {}
     }
     sensor
 }
 
 #[tactic(auto, unfolding(crate::specs::Write::slept))]
-fn slept(sensor: Sensor, z: Sleep, now: Time) -> Sensor
+fn slept(sensor: Sensor, z: Option<Sleep>, now: Time) -> Sensor
     ensures { result ≡ W.slept z sensor now }
 {
     match z {
-        Sleep::Wakes => sensor.start_acquisition(now, Duration::from_millis(1)),
-        Sleep::Pauses => sensor.pause(now),
-        Sleep::Stays => sensor,
+        Some(Sleep::Wakes) => sensor.start_acquisition(now, Duration::from_millis(1)),
+        Some(Sleep::Pauses) => sensor.pause(now),
+        None => sensor,
     }
 }
 
@@ -108,7 +113,7 @@ fn mode_written(mut sensor: Sensor, turns: bool) -> Sensor
 {
     if turns {
         sensor.deadlines.irq_hold = None;
-        return recounted(sensor, true);
+        return recounted(sensor);
     }
     sensor
 }
@@ -130,7 +135,8 @@ fn durations_written(sensor: Sensor, address: u8, value: u8) -> Sensor
     s
 }
 
-// An address and its value stay two numbers beside the kind: both engines hand them over so, and each write takes them apart.
+// What a write of a register does. Address and value stay two: the kind is worked out of both, and four of the six effects use the value
+// alone or neither. Two functions, with an arm that is never reached: as one match the proof of the soft reset did not close.
 #[tactic(auto, unfolding(crate::specs::Write::register_effect))]
 fn register_effect(sensor: Sensor, w: WriteKind, address: u8, value: u8, now: Time) -> Sensor
     ensures { result ≡ W.register_effect w sensor address value now }

@@ -8,10 +8,11 @@ use Rattle.calls.specs.declared.types.Timed.{Timed}
 use Rattle.calls.specs.declared.types.Call.TheVariants as Call
 use Rattle.calls.specs.Table.{unless_refused}
 use Rattle.calls.proofs.Theorems.Left.{accepted_is, view_accepted}
-use Rattle.sensor.specs.RegisterReads.{viewed}
+use Rattle.sensor.specs.RegisterReads.{peek, viewed}
 use Rattle.samples.specs.Samples.{interaction_deadline}
 use Rattle.waits.specs.declared.types.Report.{Report}
 use Rattle.bma150.specs.declared.host.Bma150.{Bma150}
+use Rattle.bma150.proofs.Laws.{view_added}
 use Rattle.bma150.specs.Values.{report_values}
 use Rattle.bma150.specs.Called.{Added, reported, of_view, put_in, timed_adds, served, leaves, adds, number, called}
 
@@ -74,4 +75,4 @@ module _ (s : Bma150) (address : ℕ) where
 
   pub view_adds : of_view (viewed s.sensor address) ≡ (called s (Call.View address)).adds
   unfolding adds unless_refused
-  view_adds = rw (view_accepted s.last (interaction_deadline s.sensor) s.sensor.kept.lines address)
+  view_adds = rw (view_accepted s.last (interaction_deadline s.sensor) s.sensor.kept.lines address) (view_added (peek s.sensor address) s.sensor address)

@@ -1,7 +1,7 @@
 -- What the bus sees of a sensor that hears it, and what leaves that as it is.
 use Rattle.time.specs.declared.Time.{Time}
-use Rattle.std.specs.Prelude.{ℕ, ◌≡◌, refl, Bool, true, false, cond, Option, None}
-use Rattle.std.proofs.Common.{arith, ap, ◌∙◌}
+use Rattle.std.specs.Prelude.{◌≡◌, refl, Bool, true, false, Option, None}
+use Rattle.std.proofs.Common.{true≢false, ap, ◌∙◌}
 use Rattle.i2c.specs.declared.types.State.{State}
 use Rattle.spi.specs.declared.types.Frame.{Frame}
 use Rattle.spi.specs.Frame as F
@@ -16,7 +16,7 @@ use Rattle.effects.specs.Core as C
 use Rattle.bus.specs.I2c.{Heard, target_of}
 
 pub absurd_bool : {A : Type 0} → ◌≡◌ {A = Bool} true false → A
-absurd_bool e = let z : ◌≡◌ {A = ℕ} 1 0 = ap (λ (b : Bool). cond b 1 0) e in let y : ⊥ = omega arith in absurd y
+absurd_bool e = absurd (true≢false e)
 
 -- ---- the parts: the I2C engine, the SPI frame but for its driver, the supply, and how long the pins are dead or quiet
 

@@ -1,7 +1,7 @@
 -- The wire mode and the SPI driver: what leaves them as they are.
 use Rattle.sensor.specs.Operation.{Operation}
 use Prim.Native.Nat.{ℕ, zero, suc, ◌-◌, ◌<◌}
-use Rattle.std.proofs.Common.{arith, ap, ◌∙◌, get_or-set_other}
+use Rattle.std.proofs.Common.{arith, true≢false, ap, ◌∙◌, get_or-set_other}
 use Rattle.std.specs.Prelude.{◌≡◌, Bool, cond, ◌&&◌, set, ℤ, Option, Some, None}
 use Rattle.std.proofs.Math.Path.{refl}
 use Rattle.std.proofs.Math.Bool.{true, false}
@@ -110,7 +110,7 @@ steady : (s : Sensor) → Steady s s
 steady s = record { driver = λ a. (refl, a) }
 
 awake_not_asleep : {A : Type 0} → ◌≡◌ {A = Bool} true false → A
-awake_not_asleep e = let z : ◌≡◌ {A = ℕ} 1 0 = ap (λ (b : Bool). cond b 1 0) e in let y : ⊥ = omega (arith, z) in absurd y
+awake_not_asleep e = absurd (true≢false e)
 
 pause_restarted_steady : (s : Sensor) (now : Time) → Steady s (pause_restarted s now)
 unfolding pause_restarted
@@ -264,23 +264,23 @@ unfolding interrupts_written
 interrupts_driver s value true e = rw e (recounted_driver _ (automatic s))
 interrupts_driver s value false e = rw e
 
-tested_driver : (t : SelfTest) (s : Sensor) → (tested t s).frame.driven ≡ s.frame.driven
+tested_driver : (t : Option SelfTest) (s : Sensor) → (tested t s).frame.driven ≡ s.frame.driven
 unfolding tested
-tested_driver SelfTest.Starts s = refl
-tested_driver SelfTest.Stops s = refl
-tested_driver SelfTest.Stays s = refl
+tested_driver (Some SelfTest.Starts) s = refl
+tested_driver (Some SelfTest.Stops) s = refl
+tested_driver None s = refl
 
-slept_fades : (t : Sleep) (s : Sensor) (now : Time) → Fades s (slept t s now)
+slept_fades : (t : Option Sleep) (s : Sensor) (now : Time) → Fades s (slept t s now)
 unfolding slept
-slept_fades Sleep.Wakes s now = unfaded refl
-slept_fades Sleep.Pauses s now = faded refl
-slept_fades Sleep.Stays s now = unfaded refl
+slept_fades (Some Sleep.Wakes) s now = unfaded refl
+slept_fades (Some Sleep.Pauses) s now = faded refl
+slept_fades None s now = unfaded refl
 
-slept_driver : (t : Sleep) (s : Sensor) (now : Time) → (slept t s now).sampling.asleep ≡ false → (slept t s now).frame.driven ≡ s.frame.driven
+slept_driver : (t : Option Sleep) (s : Sensor) (now : Time) → (slept t s now).sampling.asleep ≡ false → (slept t s now).frame.driven ≡ s.frame.driven
 unfolding slept
-slept_driver Sleep.Wakes s now a = refl
-slept_driver Sleep.Pauses s now a = awake_not_asleep a
-slept_driver Sleep.Stays s now a = refl
+slept_driver (Some Sleep.Wakes) s now a = refl
+slept_driver (Some Sleep.Pauses) s now a = awake_not_asleep a
+slept_driver None s now a = refl
 
 image_steady : (s : Sensor) (value : ℕ) (now : Time) → Steady s (image_written s value now)
 unfolding image_written

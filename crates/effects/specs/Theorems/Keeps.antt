@@ -67,17 +67,17 @@ interrupts_keeps : (s : Sensor) (value : ℕ) → Keeps s (interrupts_written s 
 unfolding interrupts_written
 interrupts_keeps s value = pick (Kinds.resets_interrupts value) (reset_keeps s) (itself s)
 
-tested_keeps : (t : SelfTest) (s : Sensor) → Keeps s (tested t s)
+tested_keeps : (t : Option SelfTest) (s : Sensor) → Keeps s (tested t s)
 unfolding tested
-tested_keeps SelfTest.Starts s = record { same = refl }
-tested_keeps SelfTest.Stops s = record { same = refl }
-tested_keeps SelfTest.Stays s = itself s
+tested_keeps (Some SelfTest.Starts) s = record { same = refl }
+tested_keeps (Some SelfTest.Stops) s = record { same = refl }
+tested_keeps None s = itself s
 
-slept_keeps : (t : Sleep) (s : Sensor) (now : Time) → Keeps s (slept t s now)
+slept_keeps : (t : Option Sleep) (s : Sensor) (now : Time) → Keeps s (slept t s now)
 unfolding slept
-slept_keeps Sleep.Wakes s now = record { same = refl }
-slept_keeps Sleep.Pauses s now = record { same = refl }
-slept_keeps Sleep.Stays s now = itself s
+slept_keeps (Some Sleep.Wakes) s now = record { same = refl }
+slept_keeps (Some Sleep.Pauses) s now = record { same = refl }
+slept_keeps None s now = itself s
 
 image_keeps : (s : Sensor) (value : ℕ) (now : Time) → Keeps s (image_written s value now)
 unfolding image_written

@@ -78,17 +78,17 @@ module _ (now : Time) (R : Sensor → Sensor → Type 0) (p : Steps now R) where
   unfolding interrupts_written
   interrupts_meets s value = choose (Kinds.resets_interrupts value) (λ e. p.then (p.resets s) (recounted_meets _ (automatic s))) (λ e. same_as s)
 
-  tested_meets : (t : SelfTest) (s : Sensor) → R s (tested t s)
+  tested_meets : (t : Option SelfTest) (s : Sensor) → R s (tested t s)
   unfolding tested
-  tested_meets SelfTest.Starts s = p.test_starts s
-  tested_meets SelfTest.Stops s = p.test_stops s
-  tested_meets SelfTest.Stays s = same_as s
+  tested_meets (Some SelfTest.Starts) s = p.test_starts s
+  tested_meets (Some SelfTest.Stops) s = p.test_stops s
+  tested_meets None s = same_as s
 
-  slept_meets : (t : Sleep) (s : Sensor) → R s (slept t s now)
+  slept_meets : (t : Option Sleep) (s : Sensor) → R s (slept t s now)
   unfolding slept
-  slept_meets Sleep.Wakes s = p.acquires s (from_millis 1)
-  slept_meets Sleep.Pauses s = p.pauses s
-  slept_meets Sleep.Stays s = same_as s
+  slept_meets (Some Sleep.Wakes) s = p.acquires s (from_millis 1)
+  slept_meets (Some Sleep.Pauses) s = p.pauses s
+  slept_meets None s = same_as s
 
   image_meets : (s : Sensor) (value : ℕ) → R s (image_written s value now)
   unfolding image_written
