@@ -1,5 +1,5 @@
 -- Texts appended one after another.
-use Rattle.std.specs.Prelude.{◌≡◌, refl, List, [], ◌∷◌, ◌++◌, ℕ, suc, ◌+◌, ◌≤◌, ◌<◌, length, take, drop, get_or, set}
+use Rattle.std.specs.Prelude.{◌≡◌, refl, List, [], ◌∷◌, ◌++◌, ℕ, suc, ◌+◌, ◌-◌, ◌≤◌, ◌<◌, length, take, drop, get_or, set}
 use Rattle.std.proofs.Common.{sym, ap, ◌∙◌, add-zero, add-suc, suc-add, add-one, arith, length-append, length-take, length-drop, take-suc, take_at, get_or-set_other, get_or-drop}
 use Rattle.std.proofs.lemmas.List.Edits.{sets, sets-eq}
 use Rattle.std.proofs.Math.Seq.{length-sets}
@@ -62,3 +62,17 @@ moved at {d} {e} {f} {p} {q} h x y =
     let k : p < length (drop at d) = simp length-drop (omega arith) in
     let g : get_or e (at + p) 0 ≡ get_or (drop at d) p 0 = unmoved x (at + p) (omega arith) ∙ sym (get_or-drop at d p 0) in
     says (x then y) (rw g (one_more (drop at d) p k))
+
+-- ---- a text at the front of a buffer
+
+-- bytes moved to the front stay there while more is read behind them
+pub stays_front : (b c d : List ℕ) (at have k : ℕ) → Put b 0 (take (have - at) (drop at b)) c k → take k d ≡ take k c → take k d ≡ take (have - at) (drop at b)
+stays_front b c d at have k p q =
+    let n : 0 + length (take (have - at) (drop at b)) ≤ length b = simp (length-take, length-drop) (omega arith) in
+    q ∙ text n p
+
+-- a text that is stored in front is what stands there
+pub shown : (d l : List ℕ) {e : List ℕ} → length l ≤ length d → e ≡ sets d 0 l → take (length l) e ≡ l
+shown d l {e} h p =
+    let x : Put d 0 l e (length l) = record { bytes = p; next = omega arith } in
+    text (omega (arith, h)) x
