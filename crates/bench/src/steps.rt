@@ -173,7 +173,7 @@ fn host(sensor: Bma150, c: Call, lent: bool) -> Reply
 }
 
 // The command at the head of the input; a bad one changes nothing. `lent`: a due or a pin call goes over a lent sensor.
-#[tactic(auto, unfolding(crate::specs::Line::commanded, calls::specs::Table::number, calls::specs::Table::refusal_number), using(commands::proofs::Theorems::More::image_there))]
+#[tactic(auto, unfolding(crate::specs::Line::commanded, calls::specs::Table::number, calls::specs::Table::refusal_number))]
 pub(crate) fn serve(sensor: Bma150, c: Command, input: &[u8], lent: bool) -> Reply
     requires { c ≡ D.decoded input.now }
     ensures { L.replied result ≡ L.commanded sensor c (D.image input.now) }
