@@ -18,7 +18,7 @@ pub(crate) fn low_64(z: i128) -> i64
     from_bits((z.cast_unsigned() & 0xffff_ffff_ffff_ffff) as u64)
 }
 
-// A word's bits in two's complement.
+// A word's bits in two's complement: std's cast, with the definition for a contract, as the one below. `leaves` compares words by them.
 #[tactic(auto, unfolding(crate::specs::Round::bits_64))]
 pub fn bits(z: i64) -> u64
     ensures { result ≡ R.bits_64 z }

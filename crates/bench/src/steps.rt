@@ -123,6 +123,7 @@ fn pins_by_lending(mut sensor: Bma150, when: Time, before: Levels, after: Levels
 
 // A timed call; where `lent` says so, the due call and the pin call go over a lent sensor, any other by value. `lent` comes from `run`
 // through `serve` and `host`: the trace lends every second one, so that both ways are compared, and the program without it calls by value.
+// A flag and no closure, which would have to bring the contract of either way.
 fn timed_either(sensor: Bma150, when: Time, t: Timed, lent: bool) -> Reply
     ensures { L.replied result ≡ K.called sensor (Call.At when t) }
 {

@@ -17,6 +17,7 @@ impl Model for Line {
     ghost view = { λ l. l.0.items };
 }
 
+// A hexadecimal digit. `char::from_digit` answers an `Option<char>`, and `hex` of the kit would be a crate more for two lines.
 fn digit(x: u8) -> u8
     requires { x < 16 }
     ensures { result ≡ T.digit x }

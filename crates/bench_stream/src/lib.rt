@@ -63,7 +63,7 @@ fn more<R: Read>(input: &mut R, kept: &mut Kept, trace: bool, t: Turn) -> Turn
 }
 
 // A block on the kept bytes. Its text is handed to `write`; a write that fails ends the loop.
-// `kept` and `out` stand apart here and below, since `more` takes `kept` alone, and `run` lends the bytes of one to write the other.
+// `kept` and `out` stand apart here and below: a struct of the two would be made in `stream` only to be taken apart here.
 fn commands<W: Write>(
     output: &mut W,
     kept: &mut Kept,

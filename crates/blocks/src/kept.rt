@@ -7,7 +7,8 @@ use std::io;
 use std::io::Read;
 use std::marker::Model;
 
-// They stand from `at` to `have`.
+// They stand from `at` to `have`. No `BufReader`, which allocates, and no `ArrayVec`: bytes leave in front and come behind, and are
+// moved once for each read.
 #[derive(Drop)]
 pub struct Kept {
     buf: [u8; SIZE],

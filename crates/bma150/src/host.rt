@@ -50,7 +50,7 @@ fn measurement_of(bytes: &[u8]) -> u8
     bytes.get(9).copied().unwrap_or(0)
 }
 
-// An image in a lent buffer of 19 bytes.
+// An image in a lent buffer of 19 bytes. A function of its own, since its contract carries the lengths (as that of `image_of`).
 fn hand_out(buffer: &mut [u8], image: [u8; 19])
     requires { length buffer.old ≡ 19 }
     ensures { buffer.new ≡ image }

@@ -10,8 +10,8 @@ use i2c::types::Levels;
 use registers::fields::has;
 use time::Time;
 
-// A start, whose image stays in the input; a call of the host; or no command of the list. `Bad` and no `Option`: a byte that names no
-// command is one of the program's inputs, answered by refusal 7 and used up as the others are.
+// A start, whose image stays in the input; a call of the host; or no command of the list. `Bad` and no `Option`: the
+// definitions have it as a command, also where operands are missing or not listed; refusal 7 answers it, and its byte is used up.
 #[derive(Clone, Copy)]
 pub enum Command {
     Start(Starting, Time),

@@ -13,7 +13,8 @@ use crate::motion::Motion;
 use crate::threshold::{HighG, LowG};
 use registers::fields::{HG_DUR, HG_THRES, HYSTERESIS, LG_DUR, LG_THRES, hg_hyst, lg_hyst};
 
-// The two criteria, the last three observations with the place of the next, what any motion has come to, and the alert.
+// The two criteria; the last three observations, the place of the next and how many there were, side by side as in the Rust; the
+// divider of scans; what any motion has come to; and the alert.
 #[derive(Clone, Copy, Debug, Default, PartialEq, Eq)]
 pub struct Interrupts {
     pub low_g: LowG,

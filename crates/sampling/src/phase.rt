@@ -79,7 +79,7 @@ fn lagged(s: &Sampling, input: Input, axis: u8) -> Axis
     a.sample(s.clock.last(), input.acceleration.axis(axis))
 }
 
-// `input` and `needs` go from a function to the next as in the definitions, which are of any needs (decision 14).
+// A record of `input` and `needs` would be made only to be taken apart: `input` ends in `measure`, `needs` in `end_scan`.
 impl Acquisition {
     // Whether the scans are observed.
     #[tactic(auto, unfolding(crate::specs::Phase::observing))]

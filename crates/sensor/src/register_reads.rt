@@ -17,7 +17,7 @@ fn low_address(address: u8) -> u8
     2 + axis_of(address) * 2
 }
 
-// Whether the value of an axis is a mean. There are three axes: for any other number the answer is no.
+// Whether the value of an axis is a mean. The axis is the number that `axis_of` gives; for any but the three the answer is no.
 fn is_mean(means: [bool; 3], axis: u8) -> bool
     ensures { result ≡ get_or means axis false }
 {

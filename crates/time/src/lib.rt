@@ -65,7 +65,7 @@ impl Time {
         Time::from_ticks(self.ticks().saturating_add(1))
     }
 
-    // Whether this moment lies strictly before another.
+    // Whether this moment lies strictly before another: its contract speaks of units, that of `<` of two fields; so does that of `same`.
     pub fn precedes(self, other: Time) -> bool
         ensures { result ≡ T.precedes self other }
     {
