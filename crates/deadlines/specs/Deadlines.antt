@@ -4,8 +4,6 @@ use Rattle.time.specs.declared.Time.{Time}
 use Rattle.time.specs.declared.Duration.{Duration}
 use Rattle.time.specs.Time.{ticks, plus, precedes, same}
 use Rattle.deadlines.specs.declared.Deadlines.{Deadlines}
-use Rattle.deadlines.specs.declared.Wait.{Wait}
-use Rattle.deadlines.specs.declared.Wait.TheVariants as W
 
 -- ---- one deadline
 
@@ -72,15 +70,6 @@ with_irq_hold s d = record s { irq_hold = d }
 -- an image copy ends at d (the Rust's `image_deadline`)
 abbrev pub with_image : Deadlines → Option Time → Deadlines
 with_image s d = record s { image = d }
-
--- the wait of that name is due at d
-abbrev pub with_wait : Wait → Deadlines → Option Time → Deadlines
-with_wait W.SerialReady s d = with_serial_ready s d
-with_wait W.Wake s d = with_wake s d
-with_wait W.Pause s d = with_pause s d
-with_wait W.Quiet s d = with_quiet s d
-with_wait W.IrqHold s d = with_irq_hold s d
-with_wait W.Image s d = with_image s d
 
 -- the list of the Rust's `next_deadline`, with the next sample and the end of a stored write
 abbrev pub waits : Deadlines → (sample write : Option Time) → List (Option Time)

@@ -17,17 +17,6 @@ pub struct Deadlines {
     pub image: Option<Time>,
 }
 
-// Which of them. `with` gives a copy with one set anew, inside an expression; where the record is `mut` its field is set.
-#[derive(Clone, Copy, PartialEq, Eq)]
-pub enum Wait {
-    SerialReady,
-    Wake,
-    Pause,
-    Quiet,
-    IrqHold,
-    Image,
-}
-
 // Whether a deadline is at this moment.
 #[tactic(auto, unfolding(crate::specs::Deadlines::is_at))]
 pub fn is_at(deadline: Option<Time>, now: Time) -> bool
@@ -78,26 +67,6 @@ impl Deadlines {
         ensures { result ≡ D.never }
     {
         Deadlines::default()
-    }
-
-    // One of them is set anew.
-    pub fn with(self, wait: Wait, due: Option<Time>) -> Deadlines
-        ensures { result ≡ D.with_wait wait self due }
-    {
-        match wait {
-            Wait::SerialReady => Deadlines {
-                serial_ready: due,
-                ..self
-            },
-            Wait::Wake => Deadlines { wake: due, ..self },
-            Wait::Pause => Deadlines { pause: due, ..self },
-            Wait::Quiet => Deadlines { quiet: due, ..self },
-            Wait::IrqHold => Deadlines {
-                irq_hold: due,
-                ..self
-            },
-            Wait::Image => Deadlines { image: due, ..self },
-        }
     }
 
     // The earliest of these, of the next sample and of the end of a stored write.

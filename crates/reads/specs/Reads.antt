@@ -1,9 +1,10 @@
 -- Reads of the acceleration registers, 02..07: a pair of bytes held from the low byte to the high byte.
-use Rattle.std.specs.Prelude.{ℕ, ◌-◌, ◌*◌, ◌/◌, ◌%◌, Bool, true, false, ◌&&◌, List, [], ◌∷◌, Option, Some, None, leb, eqb, get_or, set, if◌then◌else◌}
+use Rattle.std.specs.Prelude.{ℕ, ◌-◌, ◌*◌, ◌/◌, ◌%◌, Bool, ◌&&◌, List, [], ◌∷◌, Option, Some, None, leb, eqb, get_or, set, if◌then◌else◌}
 use Rattle.std.specs.Option.{is_some, unwrap_or, option_map_or}
 use Rattle.laws.specs.Notation.{Byte, Address}
 use Rattle.registers.specs.Map.{acc_lsb, acc_msb}
 use Rattle.reads.specs.declared.Reads.{Reads}
+use Rattle.reads.specs.declared.Shadowed.{Shadowed}
 use Rattle.reads.specs.declared.Prepared.{Prepared}
 
 -- ---- addresses
@@ -36,7 +37,7 @@ none_held = None ∷ None ∷ None ∷ []
 
 -- at the start: nothing is held or being sent, and the last high bytes are 0 (01, "Wrong turns")
 abbrev pub new : Reads
-new = record { shadows = none_held; last_msb = 0 ∷ 0 ∷ 0 ∷ []; tx_pair = None; tx_shadow = false }
+new = record { shadows = none_held; last_msb = 0 ∷ 0 ∷ 0 ∷ []; sending = None }
 
 -- the Rust's `shadows = [None; 3]`: no pair is held
 abbrev pub released : Reads → Reads
@@ -46,9 +47,9 @@ released s = record s { shadows = none_held }
 abbrev pub forgotten : Reads → Reads
 forgotten s = record s { last_msb = 0 ∷ 0 ∷ 0 ∷ [] }
 
--- the Rust's `tx_pair = None`, `tx_shadow = false`
+-- nothing shadowed is being sent (the Rust's `tx_pair = None`, `tx_shadow = false`)
 abbrev pub dropped : Reads → Reads
-dropped s = record s { tx_pair = None; tx_shadow = false }
+dropped s = record s { sending = None }
 
 -- the pair of an axis, if one is held (the Rust's `shadows[axis]`)
 abbrev pub shadow : Reads → (axis : ℕ) → Option (List ℕ)
@@ -68,9 +69,9 @@ held_high s axis = option_map_or (λ pair. get_or pair 1 0) (shadow s axis) 0
 unfoldable pub pair : Reads → (axis low high : ℕ) → List ℕ
 pair s axis low high = unwrap_or (shadow s axis) (low ∷ high ∷ [])
 
--- a low byte is the first of its pair, which becomes `tx_pair` (the Rust's rule)
+-- a low byte is the first of its pair, which is kept with it (the Rust's `tx_pair`)
 abbrev pub prepared_from : Reads → (pair : List ℕ) → Prepared
-prepared_from s pair = record { reads = record s { tx_pair = Some pair; tx_shadow = true }; byte = get_or pair 0 0 }
+prepared_from s pair = record { reads = record s { sending = Some (Shadowed.Low pair) }; byte = get_or pair 0 0 }
 
 -- the pair is the axis's
 abbrev pub prepared_low : Reads → (axis low high : ℕ) → Prepared
@@ -80,9 +81,9 @@ prepared_low s axis low high = prepared_from s (pair s axis low high)
 unfoldable pub high_byte : Reads → (axis : ℕ) → ℕ
 high_byte s axis = option_map_or (λ pair. get_or pair 1 0) (shadow s axis) (get_or s.last_msb axis 0)
 
--- a high byte is sent without a `tx_pair` (the Rust's rule)
+-- a high byte is sent without its pair (the Rust's `tx_shadow` alone)
 abbrev pub prepared_high : Reads → (byte : Byte) → Prepared
-prepared_high s byte = record { reads = record s { tx_shadow = true }; byte = byte }
+prepared_high s byte = record { reads = record s { sending = Some Shadowed.High }; byte = byte }
 
 -- outside 02..07, or without shadowing, the byte is the one viewed; what was being sent is dropped first (the Rust's rule)
 unfoldable pub prepared : Reads → (address : Address) (viewed : Byte) (low high : ℕ) (shadowing : Bool) → Prepared
@@ -101,9 +102,16 @@ holding s axis pair = record s { shadows = set s.shadows axis (Some (without_new
 abbrev pub finished : Reads → (axis : ℕ) (sent : Byte) → Reads
 finished s axis sent = record s { shadows = set s.shadows axis None; last_msb = set s.last_msb axis sent }
 
--- only an acceleration that was sent with shadowing on changes what is kept; `tx_pair` stays (the Rust's rule)
-unfoldable pub read_began : Reads → (address : Address) (sent : Byte) → Reads
-read_began s address sent =
-    if is_shadowed address s.tx_shadow
-    then option_map_or (holding s (axis_of address)) s.tx_pair (finished s (axis_of address) sent)
-    else s
+-- a low byte holds its pair, a high byte releases it
+unfoldable pub taken : Reads → (axis : ℕ) → Shadowed → (sent : Byte) → Reads
+taken s axis (Shadowed.Low pair) sent = holding s axis pair
+taken s axis Shadowed.High sent = finished s axis sent
+
+-- of what is being sent only a shadowed byte of an acceleration changes what is kept
+unfoldable pub began : Reads → (address : Address) → Option Shadowed → (sent : Byte) → Reads
+began s address None sent = s
+began s address (Some sending) sent = if is_acceleration address then taken s (axis_of address) sending sent else s
+
+-- what is being sent stays (the Rust's rule)
+abbrev pub read_began : Reads → (address : Address) (sent : Byte) → Reads
+read_began s address sent = began s address s.sending sent

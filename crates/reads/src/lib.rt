@@ -6,15 +6,20 @@ ghost use Rattle.reads.specs.Reads as R;
 
 use registers::fields::NEW_DATA;
 
-// What the reads keep: the held pair of each axis, the last high byte of each, the pair that a low byte is being sent from, and
-// whether what is being sent comes from a pair. The Rust's four: a high byte of a pair is sent without one, so that `tx_pair` does
-// not say it, and `release`, `forget` and `drop` each clear a part that the others leave.
+// The byte that is being sent with shadowing on: a low byte from its pair, or a high byte.
+#[derive(Clone, Copy, Debug, PartialEq, Eq)]
+pub enum Shadowed {
+    Low([u8; 2]),
+    High,
+}
+
+// What the reads keep: the held pair of each axis, the last high byte of each, and the shadowed byte that is being sent (the Rust's
+// `tx_shadow` with its `tx_pair`). `release`, `forget` and `drop` each clear one of the three.
 #[derive(Clone, Copy, Debug, PartialEq, Eq)]
 pub struct Reads {
     pub shadows: [Option<[u8; 2]>; 3],
     pub last_msb: [u8; 3],
-    pub tx_pair: Option<[u8; 2]>,
-    pub tx_shadow: bool,
+    pub sending: Option<Shadowed>,
 }
 
 // The reads and the byte to send.
@@ -24,7 +29,7 @@ pub struct Prepared {
     pub byte: u8,
 }
 
-// Whether an address is that of an acceleration: from ACC_LSB on, which `registers` has as an index.
+// Whether an address is that of an acceleration, 02 to 07.
 #[tactic(auto, unfolding(crate::specs::Reads::is_acceleration))]
 pub fn is_acceleration(address: u8) -> bool
     ensures { result ≡ R.is_acceleration address }
@@ -62,8 +67,7 @@ impl Reads {
         Reads {
             shadows: [None; 3],
             last_msb: [0; 3],
-            tx_pair: None,
-            tx_shadow: false,
+            sending: None,
         }
     }
 
@@ -92,8 +96,7 @@ impl Reads {
         ensures { result ≡ R.dropped self }
     {
         Reads {
-            tx_pair: None,
-            tx_shadow: false,
+            sending: None,
             ..self
         }
     }
@@ -103,8 +106,7 @@ impl Reads {
         ensures { result ≡ R.prepared_from self pair }
     {
         let reads = Reads {
-            tx_pair: Some(pair),
-            tx_shadow: true,
+            sending: Some(Shadowed::Low(pair)),
             ..self
         };
         Prepared {
@@ -118,7 +120,7 @@ impl Reads {
         ensures { result ≡ R.prepared_high self byte }
     {
         let reads = Reads {
-            tx_shadow: true,
+            sending: Some(Shadowed::High),
             ..self
         };
         Prepared { reads, byte }
@@ -140,8 +142,7 @@ impl Reads {
         let axis = usize::from(axis_of(address));
         let held = self.shadows[axis];
         if address % 2 == 0 {
-            let [low, high] = now;
-            return reads.prepare_low(held.unwrap_or([low, high]));
+            return reads.prepare_low(held.unwrap_or(now));
         }
         reads.prepare_high(match held {
             Some(pair) => pair[1],
@@ -171,17 +172,18 @@ impl Reads {
     }
 
     // The first bit of the byte `sent` was taken.
-    #[tactic(auto, unfolding(crate::specs::Reads::read_began), using(crate::specs::Theorems::Pairs::axis_lt))]
+    #[tactic(auto, unfolding(crate::specs::Reads::began, crate::specs::Reads::taken), using(crate::specs::Theorems::Pairs::axis_of_lt))]
     pub fn read_began(self, address: u8, sent: u8) -> Reads
         ensures { result ≡ R.read_began self address sent }
     {
-        if !is_shadowed(address, self.tx_shadow) {
+        if !is_acceleration(address) {
             return self;
         }
         let axis = axis_of(address);
-        match self.tx_pair {
-            Some(pair) => self.hold(axis, pair),
-            None => self.finish(axis, sent),
+        match self.sending {
+            Some(Shadowed::Low(pair)) => self.hold(axis, pair),
+            Some(Shadowed::High) => self.finish(axis, sent),
+            None => self,
         }
     }
 }

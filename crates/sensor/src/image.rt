@@ -4,7 +4,7 @@ ghost use Rattle.sensor.specs.Image as Im;
 
 use crate::types::{Kept, Sensor, StoredWrite};
 use analog::types::{Acceleration, Analog};
-use deadlines::{Deadlines, Wait};
+use deadlines::Deadlines;
 use filter::Filter;
 use i2c::types::{Levels, State};
 use interrupts::Interrupts;
@@ -103,7 +103,10 @@ fn acquiring(now: Time) -> Deadlines
     ensures { result ≡ Im.acquiring now }
 {
     let length = control::lengths::acquisition_delay(Duration::from_millis(3));
-    Deadlines::never().with(Wait::Wake, Some(now.plus(length)))
+    Deadlines {
+        wake: Some(now.plus(length)),
+        ..Deadlines::never()
+    }
 }
 
 // What a start keeps: 1 g on z, 20 degrees, both lines high.

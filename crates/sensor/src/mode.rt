@@ -6,7 +6,7 @@ use crate::image::reset_registers;
 use crate::types::Sensor;
 use control::automatic::{Activity, holds, may_pause, pauses_again};
 use control::lengths::{acquisition_delay, pause_length, pauses};
-use deadlines::Wait;
+use deadlines::Deadlines;
 use filter::Filter;
 use i2c::types::State;
 use interrupts::Interrupts;
@@ -58,10 +58,11 @@ impl Sensor {
         Sensor {
             reads: self.reads.release(),
             sampling: acquiring(self.sampling, bandwidth, now),
-            deadlines: self
-                .deadlines
-                .with(Wait::Pause, None)
-                .with(Wait::Wake, Some(scan)),
+            deadlines: Deadlines {
+                pause: None,
+                wake: Some(scan),
+                ..self.deadlines
+            },
             interrupts: self.interrupts.restart_acquisition(),
             ..self
         }
@@ -89,10 +90,11 @@ impl Sensor {
                 asleep: true,
                 ..self.sampling.hold(now, self.kept.input)
             },
-            deadlines: self
-                .deadlines
-                .with(Wait::Wake, None)
-                .with(Wait::Pause, self.pause_end(now)),
+            deadlines: Deadlines {
+                wake: None,
+                pause: self.pause_end(now),
+                ..self.deadlines
+            },
             ..self
         }
     }
@@ -138,7 +140,10 @@ impl Sensor {
         if holds(was_criterion, latch, self.criterion()) {
             let end = now.plus(Duration::from_micros(330));
             return Sensor {
-                deadlines: self.deadlines.with(Wait::IrqHold, Some(end)),
+                deadlines: Deadlines {
+                    irq_hold: Some(end),
+                    ..self.deadlines
+                },
                 ..self
             };
         }
@@ -187,10 +192,11 @@ impl Sensor {
         ensures { result ≡ C.automatic_off self }
     {
         Sensor {
-            deadlines: self
-                .deadlines
-                .with(Wait::IrqHold, None)
-                .with(Wait::Pause, None),
+            deadlines: Deadlines {
+                irq_hold: None,
+                pause: None,
+                ..self.deadlines
+            },
             ..self
         }
     }
@@ -229,11 +235,12 @@ impl Sensor {
             frame: self.frame.sending(None).released(),
             reads: self.reads.forget(),
             sampling: cleared(self.sampling, now),
-            deadlines: self
-                .deadlines
-                .with(Wait::IrqHold, None)
-                .with(Wait::Image, None)
-                .with(Wait::Quiet, Some(end)),
+            deadlines: Deadlines {
+                irq_hold: None,
+                image: None,
+                quiet: Some(end),
+                ..self.deadlines
+            },
             ..self
         }
     }

@@ -3,9 +3,25 @@ use Rattle.std.specs.Prelude.{◌≡◌, refl, ℕ, ◌<◌, List, [], ◌∷◌
 use Rattle.std.proofs.Common.{arith, get_or-set_same, get_or-set_other}
 use Rattle.time.specs.declared.Time.{Time}
 use Rattle.deadlines.specs.declared.Deadlines.{Deadlines}
-use Rattle.deadlines.specs.declared.Wait.{Wait}
-use Rattle.deadlines.specs.declared.Wait.TheVariants as W
-use Rattle.deadlines.specs.Deadlines.{with_wait}
+use Rattle.deadlines.specs.Deadlines.{with_serial_ready, with_wake, with_pause, with_quiet, with_irq_hold, with_image}
+
+-- the names of the waits
+pub data Wait : Type 0 where
+  SerialReady : Wait
+  Wake : Wait
+  Pause : Wait
+  Quiet : Wait
+  IrqHold : Wait
+  Image : Wait
+
+-- the setter of that name
+abbrev pub with_wait : Wait → Deadlines → Option Time → Deadlines
+with_wait Wait.SerialReady s d = with_serial_ready s d
+with_wait Wait.Wake s d = with_wake s d
+with_wait Wait.Pause s d = with_pause s d
+with_wait Wait.Quiet s d = with_quiet s d
+with_wait Wait.IrqHold s d = with_irq_hold s d
+with_wait Wait.Image s d = with_image s d
 
 -- the six waits
 abbrev pub six : Deadlines → List (Option Time)
@@ -13,12 +29,12 @@ six s = s.serial_ready ∷ s.wake ∷ s.pause ∷ s.quiet ∷ s.irq_hold ∷ s.i
 
 -- the place of a wait among them
 abbrev pub place : Wait → ℕ
-place W.SerialReady = 0
-place W.Wake = 1
-place W.Pause = 2
-place W.Quiet = 3
-place W.IrqHold = 4
-place W.Image = 5
+place Wait.SerialReady = 0
+place Wait.Wake = 1
+place Wait.Pause = 2
+place Wait.Quiet = 3
+place Wait.IrqHold = 4
+place Wait.Image = 5
 
 -- when a wait is due
 abbrev pub due : Wait → Deadlines → Option Time
@@ -26,20 +42,20 @@ due w s = get_or (six s) (place w) None
 
 -- one place of the six is set
 pub one_is_set : (w : Wait) (s : Deadlines) (d : Option Time) → six (with_wait w s d) ≡ set (six s) (place w) d
-one_is_set W.SerialReady s d = refl
-one_is_set W.Wake s d = refl
-one_is_set W.Pause s d = refl
-one_is_set W.Quiet s d = refl
-one_is_set W.IrqHold s d = refl
-one_is_set W.Image s d = refl
+one_is_set Wait.SerialReady s d = refl
+one_is_set Wait.Wake s d = refl
+one_is_set Wait.Pause s d = refl
+one_is_set Wait.Quiet s d = refl
+one_is_set Wait.IrqHold s d = refl
+one_is_set Wait.Image s d = refl
 
 place_lt : (w : Wait) → place w < 6
-place_lt W.SerialReady = omega arith
-place_lt W.Wake = omega arith
-place_lt W.Pause = omega arith
-place_lt W.Quiet = omega arith
-place_lt W.IrqHold = omega arith
-place_lt W.Image = omega arith
+place_lt Wait.SerialReady = omega arith
+place_lt Wait.Wake = omega arith
+place_lt Wait.Pause = omega arith
+place_lt Wait.Quiet = omega arith
+place_lt Wait.IrqHold = omega arith
+place_lt Wait.Image = omega arith
 
 module _ (w : Wait) (s : Deadlines) (d : Option Time) where
   -- it is due when it was set to

@@ -9,16 +9,18 @@ use Rattle.std.proofs.lemmas.Bool.{and_parts}
 use Rattle.registers.specs.Map.{acc_lsb, acc_msb, new_data}
 use Rattle.reads.specs.declared.Reads.{Reads}
 use Rattle.reads.specs.declared.Prepared.{Prepared}
-use Rattle.reads.specs.Reads.{is_acceleration, is_shadowed, axis_of, is_low, without_new_data, shadow, is_held, held_high, pair, high_byte, dropped, prepared_low, prepared_high, prepared, holding, read_began}
+use Rattle.reads.specs.Reads.{is_acceleration, is_shadowed, axis_of, is_low, without_new_data, shadow, is_held, held_high, pair, high_byte, dropped, prepared_low, prepared_high, prepared, holding, taken, began, read_began}
 
 -- ---- addresses
 
 -- there are three axes
+pub axis_of_lt : (address : ℕ) → is_acceleration address ≡ true → axis_of address < 3
+unfolding is_acceleration
+axis_of_lt address e = omega (arith, leb-true address 7 ((and_parts (leb 2 address) (leb address 7) e).1))
+
 pub axis_lt : (address : ℕ) (shadowing : Bool) → is_shadowed address shadowing ≡ true → axis_of address < 3
-unfolding is_shadowed is_acceleration
-axis_lt address shadowing e =
-    let p : is_acceleration address ≡ true = (and_parts shadowing (is_acceleration address) e).1 in
-    omega (arith, leb-true address 7 ((and_parts (leb 2 address) (leb address 7) p).1))
+unfolding is_shadowed
+axis_lt address shadowing e = axis_of_lt address ((and_parts shadowing (is_acceleration address) e).1)
 
 module _ (axis : ℕ) (p : axis < 3) where
   low_is : is_shadowed (acc_lsb axis) true ≡ true
@@ -92,7 +94,7 @@ module _ (s : Reads) (axis viewed low high : ℕ) (p : axis < 3) where
 
   -- the low byte taken: its pair is held
   low_taken : (sent : ℕ) → read_began (prepared_low (dropped s) axis low high).reads (acc_lsb axis) sent ≡ after_low s axis low high
-  unfolding pair read_began
+  unfolding pair began taken is_shadowed
   low_taken sent = rw (low_is axis p, low_axis axis p)
 
   -- the pair that is sent from does not depend on what was being sent before
