@@ -11,7 +11,7 @@ use Rattle.spi.specs.declared.types.Serial.{Serial}
 use Rattle.spi.specs.declared.types.Frame.{Frame}
 use Rattle.spi.specs.declared.types.Clocked.{Clocked}
 use Rattle.spi.specs.declared.types.Shift.{Shift}
-use Rattle.control.specs.declared.types.WriteKind.{WriteKind}
+use Rattle.control.specs.declared.types.Effect.{Effect}
 use Rattle.sensor.specs.declared.types.Kept.{Kept}
 use Rattle.sensor.specs.declared.types.Outage.{Outage}
 use Rattle.sensor.specs.declared.types.Sensor.{Sensor}
@@ -63,16 +63,14 @@ itself s = record { same = refl }
 of : {s t : Sensor} → C.Keeps s t → Keeps s t
 of p = record { same = ap part p.same }
 
-pub then_automatic_keeps : (w : WriteKind) (s : Sensor) (address value : ℕ) (now : Time) → Keeps s (then_automatic w s address value now)
+pub then_automatic_keeps : (e : Effect) (s : Sensor) (address value : ℕ) (now : Time) → Keeps s (then_automatic e s address value now)
 unfolding E.Ordinary register_effect
-then_automatic_keeps WriteKind.Ignored s address value now = of (E.then_automatic_keeps WriteKind.Ignored s address value now tt)
-then_automatic_keeps WriteKind.Stored s address value now = of (E.then_automatic_keeps WriteKind.Stored s address value now tt)
-then_automatic_keeps WriteKind.Reset s address value now = then (record { same = refl }) (of (E.automatic_keeps (soft_reset s now) now _ false))
-then_automatic_keeps WriteKind.Control s address value now = of (E.then_automatic_keeps WriteKind.Control s address value now tt)
-then_automatic_keeps WriteKind.Measurement s address value now = of (E.then_automatic_keeps WriteKind.Measurement s address value now tt)
-then_automatic_keeps WriteKind.Operation s address value now = of (E.then_automatic_keeps WriteKind.Operation s address value now tt)
-then_automatic_keeps WriteKind.Durations s address value now = of (E.then_automatic_keeps WriteKind.Durations s address value now tt)
-then_automatic_keeps WriteKind.Plain s address value now = of (E.then_automatic_keeps WriteKind.Plain s address value now tt)
+then_automatic_keeps Effect.Reset s address value now = then (record { same = refl }) (of (E.automatic_keeps (soft_reset s now) now _ false))
+then_automatic_keeps Effect.Control s address value now = of (E.then_automatic_keeps Effect.Control s address value now tt)
+then_automatic_keeps Effect.Measurement s address value now = of (E.then_automatic_keeps Effect.Measurement s address value now tt)
+then_automatic_keeps Effect.Operation s address value now = of (E.then_automatic_keeps Effect.Operation s address value now tt)
+then_automatic_keeps Effect.Durations s address value now = of (E.then_automatic_keeps Effect.Durations s address value now tt)
+then_automatic_keeps Effect.Plain s address value now = of (E.then_automatic_keeps Effect.Plain s address value now tt)
 
 pub sync_keeps : (s : Sensor) (end : Time) (inclusive : Bool) → Keeps s (sync_local_until s end inclusive)
 sync_keeps s end inclusive = of (E.sync_keeps s end inclusive)

@@ -39,12 +39,7 @@ write_effect_keeps : (w : WriteKind) (s : Sensor) (address value : ℕ) (now : T
 unfolding write_effect is_stored
 write_effect_keeps WriteKind.Ignored s address value now = record { same = refl }
 write_effect_keeps WriteKind.Stored s address value now = record { same = refl }
-write_effect_keeps WriteKind.Reset s address value now = then_automatic_keeps WriteKind.Reset s address value now
-write_effect_keeps WriteKind.Control s address value now = then_automatic_keeps WriteKind.Control s address value now
-write_effect_keeps WriteKind.Measurement s address value now = then_automatic_keeps WriteKind.Measurement s address value now
-write_effect_keeps WriteKind.Operation s address value now = then_automatic_keeps WriteKind.Operation s address value now
-write_effect_keeps WriteKind.Durations s address value now = then_automatic_keeps WriteKind.Durations s address value now
-write_effect_keeps WriteKind.Plain s address value now = then_automatic_keeps WriteKind.Plain s address value now
+write_effect_keeps (WriteKind.Taken e) s address value now = then_automatic_keeps e s address value now
 
 register_keeps : (s : Sensor) (address value : ℕ) (now : Time)
     → Keeps (with_writing s (begun_writing (Some (address, value)) s now)) (write_register s address value now)

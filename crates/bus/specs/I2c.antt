@@ -12,6 +12,7 @@ use Rattle.spi.specs.declared.types.Serial.TheVariants as Serial
 use Rattle.calls.specs.declared.types.Timed.{Timed}
 use Rattle.calls.specs.declared.types.Call.{Call}
 use Rattle.control.specs.declared.types.WriteKind.{WriteKind}
+use Rattle.control.specs.declared.types.Effect.{Effect}
 use Rattle.writes.specs.Write.{write_kind}
 use Rattle.sensor.specs.declared.types.Sensor.{Sensor}
 use Rattle.sensor.specs.Record.{is_off}
@@ -74,12 +75,12 @@ fetch s r = ones_for (prepare_read s r).sent
 unfoldable pub is_reset : WriteKind → Bool
 is_reset WriteKind.Ignored = false
 is_reset WriteKind.Stored = false
-is_reset WriteKind.Reset = true
-is_reset WriteKind.Control = false
-is_reset WriteKind.Measurement = false
-is_reset WriteKind.Operation = false
-is_reset WriteKind.Durations = false
-is_reset WriteKind.Plain = false
+is_reset (WriteKind.Taken Effect.Reset) = true
+is_reset (WriteKind.Taken Effect.Control) = false
+is_reset (WriteKind.Taken Effect.Measurement) = false
+is_reset (WriteKind.Taken Effect.Operation) = false
+is_reset (WriteKind.Taken Effect.Durations) = false
+is_reset (WriteKind.Taken Effect.Plain) = false
 
 -- what the engine asks for is the write of a soft reset, as the registers of the sensor are
 unfoldable pub resets : Sensor → Option Action → Bool

@@ -6,31 +6,32 @@ use Rattle.registers.specs.Map as Map
 use Rattle.registers.specs.declared.access.Gate.{Gate}
 use Rattle.registers.specs.Access.{ignores, stored}
 use Rattle.control.specs.declared.types.WriteKind.{WriteKind}
+use Rattle.control.specs.declared.types.Effect.{Effect}
 use Rattle.control.specs.declared.types.SelfTest.{SelfTest}
 use Rattle.control.specs.declared.types.Sleep.{Sleep}
 
 -- ---- what a write does
 
 -- 0a: a soft reset where soft_reset is set, else its fields (the Rust's rule)
-unfoldable pub written_control : (value : Byte) → WriteKind
-written_control value = if Map.soft_reset value then WriteKind.Reset else WriteKind.Control
+unfoldable pub written_control : (value : Byte) → Effect
+written_control value = if Map.soft_reset value then Effect.Reset else Effect.Control
 
 -- a register that takes the write: 0a, 14, 15, 0d and 0f have effects, the others only keep the value (the Rust's rule)
-unfoldable pub written_register : (address : Address) (value : Byte) → WriteKind
+unfoldable pub written_register : (address : Address) (value : Byte) → Effect
 written_register address value =
     if eqb address Map.control then written_control value
-    else if eqb address Map.measurement then WriteKind.Measurement
-    else if eqb address Map.operation then WriteKind.Operation
-    else if eqb address Map.LG_dur then WriteKind.Durations
-    else if eqb address Map.HG_dur then WriteKind.Durations
-    else WriteKind.Plain
+    else if eqb address Map.measurement then Effect.Measurement
+    else if eqb address Map.operation then Effect.Operation
+    else if eqb address Map.LG_dur then Effect.Durations
+    else if eqb address Map.HG_dur then Effect.Durations
+    else Effect.Plain
 
 -- 01: a write is ignored, begins a stored write unless one runs, or is taken
 unfoldable pub kind_of_write : (address : Address) (value : Byte) → Gate → (running : Bool) → WriteKind
 kind_of_write address value g running =
     if ignores address value g then WriteKind.Ignored
     else if stored address then (if running then WriteKind.Ignored else WriteKind.Stored)
-    else written_register address value
+    else WriteKind.Taken (written_register address value)
 
 -- ---- a write of 0a that is no soft reset
 

@@ -2,7 +2,7 @@
 ghost use Rattle.std.specs.Prelude.{◌≡◌};
 ghost use Rattle.control.specs.Kinds as Kinds;
 
-use crate::types::{SelfTest, Sleep, WriteKind};
+use crate::types::{Effect, SelfTest, Sleep, WriteKind};
 use registers::access::{Gate, ignores, stored};
 use registers::fields::{
     CONTROL, HG_DUR, LG_DUR, MEASUREMENT, OPERATION, RESET_INT, SELF_TEST_0, SLEEP, SOFT_RESET,
@@ -11,27 +11,27 @@ use registers::fields::{
 
 // A write of 0a that is taken.
 #[tactic(auto, unfolding(crate::specs::Kinds::written_control))]
-fn written_control(value: u8) -> WriteKind
+fn written_control(value: u8) -> Effect
     ensures { result ≡ Kinds.written_control value }
 {
     if has(value, SOFT_RESET) {
-        WriteKind::Reset
+        Effect::Reset
     } else {
-        WriteKind::Control
+        Effect::Control
     }
 }
 
 // A write of a register that is taken.
 #[tactic(auto, unfolding(crate::specs::Kinds::written_register))]
-fn written_register(address: u8, value: u8) -> WriteKind
+fn written_register(address: u8, value: u8) -> Effect
     ensures { result ≡ Kinds.written_register address value }
 {
     match usize::from(address) {
         CONTROL => written_control(value),
-        MEASUREMENT => WriteKind::Measurement,
-        OPERATION => WriteKind::Operation,
-        LG_DUR | HG_DUR => WriteKind::Durations,
-        _ => WriteKind::Plain,
+        MEASUREMENT => Effect::Measurement,
+        OPERATION => Effect::Operation,
+        LG_DUR | HG_DUR => Effect::Durations,
+        _ => Effect::Plain,
     }
 }
 
@@ -47,7 +47,7 @@ pub fn kind_of_write(address: u8, value: u8, gate: Gate, running: bool) -> Write
     match (stored(address), running) {
         (true, true) => WriteKind::Ignored,
         (true, false) => WriteKind::Stored,
-        (false, _) => written_register(address, value),
+        (false, _) => WriteKind::Taken(written_register(address, value)),
     }
 }
 

@@ -1,8 +1,14 @@
-// What a write does. `Ignored` is one of these kinds: an ignored write is what most addresses answer, and each kind is read in one match.
+// What a write does: it is ignored, begins a stored write, or is taken by its register.
 #[derive(Clone, Copy, Debug, PartialEq, Eq)]
 pub enum WriteKind {
     Ignored,
     Stored,
+    Taken(Effect),
+}
+
+// What a register that takes a write does.
+#[derive(Clone, Copy, Debug, PartialEq, Eq)]
+pub enum Effect {
     Reset,
     Control,
     Measurement,

@@ -11,6 +11,7 @@ use Rattle.spi.specs.Frame as F
 use Rattle.reads.specs.Reads as Reads
 use Rattle.deadlines.specs.Deadlines.{with_irq_hold, with_image, with_wake, shifted}
 use Rattle.control.specs.declared.types.WriteKind.TheVariants as WriteKind
+use Rattle.control.specs.declared.types.Effect.TheVariants as Effect
 use Rattle.control.specs.declared.types.SelfTest.TheVariants as SelfTest
 use Rattle.control.specs.Kinds as Kinds
 use Rattle.registers.specs.Map.{control, operation}
@@ -53,8 +54,8 @@ pub record Steps (now : Time) (R : Sensor → Sensor → Type 0) : Type 0 where
   pub operates : (s : Sensor) (value : ℕ) → R s (with_reads (put s operation value) (shadowing s.reads value))
   pub measures : (s : Sensor) (value : ℕ) → R s (measurement_written s value)
   pub soft_resets : (s : Sensor) → R s (soft_reset s now)
-  pub lasts : (s : Sensor) (address value : ℕ) → write_kind s address value ≡ WriteKind.Durations → R s (durations_written s address value)
-  pub puts : (s : Sensor) (address value : ℕ) → write_kind s address value ≡ WriteKind.Plain → R s (put s address value)
+  pub lasts : (s : Sensor) (address value : ℕ) → write_kind s address value ≡ (WriteKind.Taken Effect.Durations) → R s (durations_written s address value)
+  pub puts : (s : Sensor) (address value : ℕ) → write_kind s address value ≡ (WriteKind.Taken Effect.Plain) → R s (put s address value)
   pub begins : (s : Sensor) (address value : ℕ) → write_kind s address value ≡ WriteKind.Stored → R s (begun s address value now)
   -- ---- reads and select
   pub fetches : (s : Sensor) (address b : ℕ) → R s (with_reads s (prepared s address b).reads)

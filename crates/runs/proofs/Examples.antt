@@ -237,122 +237,86 @@ record Comes (b : Start) (cs : List Call) (now : Time) (rail : ℕ) (bytes : Lis
   from_zero : met_zero false (accepted (started b) cs) ≡ true
   cells : (booked (opened b) (ending cs now rail)).cells ≡ bytes
 
-of_extremes : Comes stock_start extremes limit 65535 stock
-unfolding LB.all_shifted_in LI.iterate NC.mixed NC.low_half NC.threshold NC.crossing NC.bits_where NC.byte FF.pushed FF.full FF.answered FM.tabulate FM.ring FM.sumZ FM.mean NR.sets NR.clears NR.raised NR.active NR.observe NR.fires NR.counted NP.motion_output NP.threshold_output NP.output NP.enables_motion NP.verifying_motion NP.candidate NP.verifying NS.configure NS.restart_acquisition NS.reset NS.axis NS.moved NS.moves NS.count_motion NS.qualifies NS.alerts NS.detects NS.decide NS.observation NS.cycle NS.shorten NS.lapsed NS.ended NS.millisecond IB.data_moves IB.edge IB.is_condition IB.is_start IB.is_rise IB.is_fall IB.data_at IE.conditioned IE.acknowledging IE.within_byte IE.pointer_after IE.bit_taken IE.byte_step IE.at_ninth IE.followed IE.acknowledge_step IE.answered IE.answer IE.answer_step IE.ninth_step IE.addressed IE.received IE.completes IE.completed IE.step IE.uses_as IE.uses_at_rise IE.reads_next IE.goes_on IE.uses_at_fall IE.consumes_conversion Ra.unwritable Ra.working Ra.stored Ra.image_blocks Ra.sleep_blocks Ra.locked Ra.ignores Ra.begins Ra.unreadable Ra.withheld RC.held RC.signed_ten RC.range_g RC.code RC.temperature DD.is_set DD.is_at DD.is_by DD.sooner DD.unless_at DD.later DD.first DD.earliest CW.written_control CW.written_register CW.kind_of_write CW.self_test CW.sleep CA.holds CA.pauses_again CA.may_pause CL.acquisition_cycles SF.differs SF.select SF.reads SF.first_bit SF.addressed SF.completed SF.take_bit SF.moves SF.fetches SF.shifts SF.bit_drive SF.level SF.next_bit SF.moved SF.consumes_at_rise SF.consumes_at_fall RR.is_acceleration RR.is_shadowed RR.pair RR.high_byte RR.prepared RR.read_began SP.converted SP.all_new SP.ready SP.interval SP.observing SP.observed SP.scanned SP.test_counted SP.axis_phase SP.sample_phase SP.ticks_now SP.ticked SP.sample BR.away BR.cold_of BR.runs BR.tests Bi.cell_byte Bi.with_cell Bi.image_at Bi.shadowing BC.pause_end BC.shows_new_data BC.interrupt BC.pause_restarted BC.interrupt_held BC.pause_if_idle BC.automatic_control BC.reset_time BG.shown BG.peek BG.mark BG.mark_of BG.fetched BG.counts_as_read BG.byte_read BW.recounted BW.interrupts_written BW.tested BW.slept BW.image_written BW.mode_written BW.register_effect BW.write_effect BS.samples_run BS.next_sample BS.write_end BS.sample_due BS.next_deadline BS.limit BS.caught_up BS.samples_on_demand BS.sync_local_until BL.selected_to BL.may_select BE.moved BE.first_bit_taken BE.write_done BE.spi_listens BE.rising_effect BE.rise_synced BE.fall_synced BE.falling_effect BP.i2c_listens BP.ones_for BP.acted BP.i2c_pins BP.pins_synced BO.spi_drives BO.output BO.i2c_holds BO.data_output BU.cut BU.turned ST.held ST.turned BU.zero_while_off BU.reacquired BU.returned BU.supply_low BU.supply_ok BU.set_supply BD.pause_ended BD.write_ended BD.image_ended BD.wake_ended BD.sample_ended BD.verifies TF.timed_facts TF.facts T.refusal_number T.number T.wrong_length T.beyond T.any_beyond T.out_of_range T.jumps T.late T.too_late T.goes_back T.due_by T.before_due T.due_at T.beside_due T.first_found T.refusal T.reserved T.turned_down T.start_refusal T.unless_refused C.after_start C.reported C.put_in C.effect C.timed_adds C.leaves C.adds BV.drive_letter BV.report_values BV.view_value BV.mark_letter RD.spi_write RD.action_write RD.i2c_write RD.timed_does RD.does RL.after RL.answers RL.accepted RL.zeroed RL.met_zero RL.last_kept RB.operation RB.completing RB.cutting RB.supplied RB.runs RB.accepted_write RB.of_write RB.began RB.changed_at RB.entered RB.booked
-of_extremes = record { start_accepted = refl; supply_accepted = refl; from_zero = refl; cells = refl }
+-- what is worked out of these runs
+record Computed : Type 0 where
+  of_extremes : Comes stock_start extremes limit 65535 stock
+  accepts_extremes : length (accepted (started stock_start) extremes) ≡ 12
+  of_i2c : Comes stock_start over_i2c completion 3000 (image_with 255 150)
+  of_brown_out : Comes stock_start browned_out quarter 3000 (image_with 4 150)
+  of_twice : Comes stock_start twice second_end 3000 (image_with 0x55 150)
+  of_two : Comes stock_start two_writes return 3000 (image_with 255 2)
+  of_other : Comes other_start no_write return 2400 (image_with 255 2)
+  of_storing : Comes stock_start storing completion 3000 reserved_image
+  of_stored : Comes stored_start only_zero completion 2400 reserved_image
+  reserved_kept : kept stock_start storing ≡ kept stored_start only_zero
+  same_kept : kept stock_start two_writes ≡ kept other_start no_write
+  of_reported_on : Comes stock_start reported_on (time 0) 3000 stock
+  of_reported_off : Comes stock_start reported_off (time 0) 3000 stock
+  of_unreported : Comes stock_start unreported (time 0) 3000 stock
+  same_lines : kept stock_start reported_on ≡ kept stock_start reported_off
+  -- acceleration and temperature are the same without a report, and yet the next START is answered otherwise
+  same_input : (kept stock_start reported_on).input ≡ (kept stock_start unreported).input
+  jumps_then : number (left stock_start reported_on (time 0) 3000) start_report ≡ 8
+  follows_then : number (left stock_start unreported (time 0) 3000) start_report ≡ 0
+  i2c_so_far : I2cSoFar stock_start i2c_before i2c_within 0x2c 0xff
+  i2c_begins : (booked (opened stock_start) ((i2c_before ++ i2c_within) ++ (last_report ∷ []))).running ≡ begun
+  spi_so_far : SpiSoFar stock_start spi_before spi_within 0x2c 0xff
+  spi_begins : (booked (opened stock_start) ((spi_before ++ spi_within) ++ (last_rise ∷ []))).running ≡ begun
 
-accepts_extremes : length (accepted (started stock_start) extremes) ≡ 12
-unfolding LB.all_shifted_in LI.iterate NC.mixed NC.low_half NC.threshold NC.crossing NC.bits_where NC.byte FF.pushed FF.full FF.answered FM.tabulate FM.ring FM.sumZ FM.mean NR.sets NR.clears NR.raised NR.active NR.observe NR.fires NR.counted NP.motion_output NP.threshold_output NP.output NP.enables_motion NP.verifying_motion NP.candidate NP.verifying NS.configure NS.restart_acquisition NS.reset NS.axis NS.moved NS.moves NS.count_motion NS.qualifies NS.alerts NS.detects NS.decide NS.observation NS.cycle NS.shorten NS.lapsed NS.ended NS.millisecond IB.data_moves IB.edge IB.is_condition IB.is_start IB.is_rise IB.is_fall IB.data_at IE.conditioned IE.acknowledging IE.within_byte IE.pointer_after IE.bit_taken IE.byte_step IE.at_ninth IE.followed IE.acknowledge_step IE.answered IE.answer IE.answer_step IE.ninth_step IE.addressed IE.received IE.completes IE.completed IE.step IE.uses_as IE.uses_at_rise IE.reads_next IE.goes_on IE.uses_at_fall IE.consumes_conversion Ra.unwritable Ra.working Ra.stored Ra.image_blocks Ra.sleep_blocks Ra.locked Ra.ignores Ra.begins Ra.unreadable Ra.withheld RC.held RC.signed_ten RC.range_g RC.code RC.temperature DD.is_set DD.is_at DD.is_by DD.sooner DD.unless_at DD.later DD.first DD.earliest CW.written_control CW.written_register CW.kind_of_write CW.self_test CW.sleep CA.holds CA.pauses_again CA.may_pause CL.acquisition_cycles SF.differs SF.select SF.reads SF.first_bit SF.addressed SF.completed SF.take_bit SF.moves SF.fetches SF.shifts SF.bit_drive SF.level SF.next_bit SF.moved SF.consumes_at_rise SF.consumes_at_fall RR.is_acceleration RR.is_shadowed RR.pair RR.high_byte RR.prepared RR.read_began SP.converted SP.all_new SP.ready SP.interval SP.observing SP.observed SP.scanned SP.test_counted SP.axis_phase SP.sample_phase SP.ticks_now SP.ticked SP.sample BR.away BR.cold_of BR.runs BR.tests Bi.cell_byte Bi.with_cell Bi.image_at Bi.shadowing BC.pause_end BC.shows_new_data BC.interrupt BC.pause_restarted BC.interrupt_held BC.pause_if_idle BC.automatic_control BC.reset_time BG.shown BG.peek BG.mark BG.mark_of BG.fetched BG.counts_as_read BG.byte_read BW.recounted BW.interrupts_written BW.tested BW.slept BW.image_written BW.mode_written BW.register_effect BW.write_effect BS.samples_run BS.next_sample BS.write_end BS.sample_due BS.next_deadline BS.limit BS.caught_up BS.samples_on_demand BS.sync_local_until BL.selected_to BL.may_select BE.moved BE.first_bit_taken BE.write_done BE.spi_listens BE.rising_effect BE.rise_synced BE.fall_synced BE.falling_effect BP.i2c_listens BP.ones_for BP.acted BP.i2c_pins BP.pins_synced BO.spi_drives BO.output BO.i2c_holds BO.data_output BU.cut BU.turned ST.held ST.turned BU.zero_while_off BU.reacquired BU.returned BU.supply_low BU.supply_ok BU.set_supply BD.pause_ended BD.write_ended BD.image_ended BD.wake_ended BD.sample_ended BD.verifies TF.timed_facts TF.facts T.refusal_number T.number T.wrong_length T.beyond T.any_beyond T.out_of_range T.jumps T.late T.too_late T.goes_back T.due_by T.before_due T.due_at T.beside_due T.first_found T.refusal T.reserved T.turned_down T.start_refusal T.unless_refused C.after_start C.reported C.put_in C.effect C.timed_adds C.leaves C.adds BV.drive_letter BV.report_values BV.view_value BV.mark_letter RD.spi_write RD.action_write RD.i2c_write RD.timed_does RD.does RL.after RL.answers RL.accepted RL.zeroed RL.met_zero RL.last_kept RB.operation RB.completing RB.cutting RB.supplied RB.runs RB.accepted_write RB.of_write RB.began RB.changed_at RB.entered RB.booked
-accepts_extremes = refl
-
-of_i2c : Comes stock_start over_i2c completion 3000 (image_with 255 150)
-unfolding LB.all_shifted_in LI.iterate NC.mixed NC.low_half NC.threshold NC.crossing NC.bits_where NC.byte FF.pushed FF.full FF.answered FM.tabulate FM.ring FM.sumZ FM.mean NR.sets NR.clears NR.raised NR.active NR.observe NR.fires NR.counted NP.motion_output NP.threshold_output NP.output NP.enables_motion NP.verifying_motion NP.candidate NP.verifying NS.configure NS.restart_acquisition NS.reset NS.axis NS.moved NS.moves NS.count_motion NS.qualifies NS.alerts NS.detects NS.decide NS.observation NS.cycle NS.shorten NS.lapsed NS.ended NS.millisecond IB.data_moves IB.edge IB.is_condition IB.is_start IB.is_rise IB.is_fall IB.data_at IE.conditioned IE.acknowledging IE.within_byte IE.pointer_after IE.bit_taken IE.byte_step IE.at_ninth IE.followed IE.acknowledge_step IE.answered IE.answer IE.answer_step IE.ninth_step IE.addressed IE.received IE.completes IE.completed IE.step IE.uses_as IE.uses_at_rise IE.reads_next IE.goes_on IE.uses_at_fall IE.consumes_conversion Ra.unwritable Ra.working Ra.stored Ra.image_blocks Ra.sleep_blocks Ra.locked Ra.ignores Ra.begins Ra.unreadable Ra.withheld RC.held RC.signed_ten RC.range_g RC.code RC.temperature DD.is_set DD.is_at DD.is_by DD.sooner DD.unless_at DD.later DD.first DD.earliest CW.written_control CW.written_register CW.kind_of_write CW.self_test CW.sleep CA.holds CA.pauses_again CA.may_pause CL.acquisition_cycles SF.differs SF.select SF.reads SF.first_bit SF.addressed SF.completed SF.take_bit SF.moves SF.fetches SF.shifts SF.bit_drive SF.level SF.next_bit SF.moved SF.consumes_at_rise SF.consumes_at_fall RR.is_acceleration RR.is_shadowed RR.pair RR.high_byte RR.prepared RR.read_began SP.converted SP.all_new SP.ready SP.interval SP.observing SP.observed SP.scanned SP.test_counted SP.axis_phase SP.sample_phase SP.ticks_now SP.ticked SP.sample BR.away BR.cold_of BR.runs BR.tests Bi.cell_byte Bi.with_cell Bi.image_at Bi.shadowing BC.pause_end BC.shows_new_data BC.interrupt BC.pause_restarted BC.interrupt_held BC.pause_if_idle BC.automatic_control BC.reset_time BG.shown BG.peek BG.mark BG.mark_of BG.fetched BG.counts_as_read BG.byte_read BW.recounted BW.interrupts_written BW.tested BW.slept BW.image_written BW.mode_written BW.register_effect BW.write_effect BS.samples_run BS.next_sample BS.write_end BS.sample_due BS.next_deadline BS.limit BS.caught_up BS.samples_on_demand BS.sync_local_until BL.selected_to BL.may_select BE.moved BE.first_bit_taken BE.write_done BE.spi_listens BE.rising_effect BE.rise_synced BE.fall_synced BE.falling_effect BP.i2c_listens BP.ones_for BP.acted BP.i2c_pins BP.pins_synced BO.spi_drives BO.output BO.i2c_holds BO.data_output BU.cut BU.turned ST.held ST.turned BU.zero_while_off BU.reacquired BU.returned BU.supply_low BU.supply_ok BU.set_supply BD.pause_ended BD.write_ended BD.image_ended BD.wake_ended BD.sample_ended BD.verifies TF.timed_facts TF.facts T.refusal_number T.number T.wrong_length T.beyond T.any_beyond T.out_of_range T.jumps T.late T.too_late T.goes_back T.due_by T.before_due T.due_at T.beside_due T.first_found T.refusal T.reserved T.turned_down T.start_refusal T.unless_refused C.after_start C.reported C.put_in C.effect C.timed_adds C.leaves C.adds BV.drive_letter BV.report_values BV.view_value BV.mark_letter RD.spi_write RD.action_write RD.i2c_write RD.timed_does RD.does RL.after RL.answers RL.accepted RL.zeroed RL.met_zero RL.last_kept RB.operation RB.completing RB.cutting RB.supplied RB.runs RB.accepted_write RB.of_write RB.began RB.changed_at RB.entered RB.booked
-of_i2c = record { start_accepted = refl; supply_accepted = refl; from_zero = refl; cells = refl }
-
-of_brown_out : Comes stock_start browned_out quarter 3000 (image_with 4 150)
-unfolding LB.all_shifted_in LI.iterate NC.mixed NC.low_half NC.threshold NC.crossing NC.bits_where NC.byte FF.pushed FF.full FF.answered FM.tabulate FM.ring FM.sumZ FM.mean NR.sets NR.clears NR.raised NR.active NR.observe NR.fires NR.counted NP.motion_output NP.threshold_output NP.output NP.enables_motion NP.verifying_motion NP.candidate NP.verifying NS.configure NS.restart_acquisition NS.reset NS.axis NS.moved NS.moves NS.count_motion NS.qualifies NS.alerts NS.detects NS.decide NS.observation NS.cycle NS.shorten NS.lapsed NS.ended NS.millisecond IB.data_moves IB.edge IB.is_condition IB.is_start IB.is_rise IB.is_fall IB.data_at IE.conditioned IE.acknowledging IE.within_byte IE.pointer_after IE.bit_taken IE.byte_step IE.at_ninth IE.followed IE.acknowledge_step IE.answered IE.answer IE.answer_step IE.ninth_step IE.addressed IE.received IE.completes IE.completed IE.step IE.uses_as IE.uses_at_rise IE.reads_next IE.goes_on IE.uses_at_fall IE.consumes_conversion Ra.unwritable Ra.working Ra.stored Ra.image_blocks Ra.sleep_blocks Ra.locked Ra.ignores Ra.begins Ra.unreadable Ra.withheld RC.held RC.signed_ten RC.range_g RC.code RC.temperature DD.is_set DD.is_at DD.is_by DD.sooner DD.unless_at DD.later DD.first DD.earliest CW.written_control CW.written_register CW.kind_of_write CW.self_test CW.sleep CA.holds CA.pauses_again CA.may_pause CL.acquisition_cycles SF.differs SF.select SF.reads SF.first_bit SF.addressed SF.completed SF.take_bit SF.moves SF.fetches SF.shifts SF.bit_drive SF.level SF.next_bit SF.moved SF.consumes_at_rise SF.consumes_at_fall RR.is_acceleration RR.is_shadowed RR.pair RR.high_byte RR.prepared RR.read_began SP.converted SP.all_new SP.ready SP.interval SP.observing SP.observed SP.scanned SP.test_counted SP.axis_phase SP.sample_phase SP.ticks_now SP.ticked SP.sample BR.away BR.cold_of BR.runs BR.tests Bi.cell_byte Bi.with_cell Bi.image_at Bi.shadowing BC.pause_end BC.shows_new_data BC.interrupt BC.pause_restarted BC.interrupt_held BC.pause_if_idle BC.automatic_control BC.reset_time BG.shown BG.peek BG.mark BG.mark_of BG.fetched BG.counts_as_read BG.byte_read BW.recounted BW.interrupts_written BW.tested BW.slept BW.image_written BW.mode_written BW.register_effect BW.write_effect BS.samples_run BS.next_sample BS.write_end BS.sample_due BS.next_deadline BS.limit BS.caught_up BS.samples_on_demand BS.sync_local_until BL.selected_to BL.may_select BE.moved BE.first_bit_taken BE.write_done BE.spi_listens BE.rising_effect BE.rise_synced BE.fall_synced BE.falling_effect BP.i2c_listens BP.ones_for BP.acted BP.i2c_pins BP.pins_synced BO.spi_drives BO.output BO.i2c_holds BO.data_output BU.cut BU.turned ST.held ST.turned BU.zero_while_off BU.reacquired BU.returned BU.supply_low BU.supply_ok BU.set_supply BD.pause_ended BD.write_ended BD.image_ended BD.wake_ended BD.sample_ended BD.verifies TF.timed_facts TF.facts T.refusal_number T.number T.wrong_length T.beyond T.any_beyond T.out_of_range T.jumps T.late T.too_late T.goes_back T.due_by T.before_due T.due_at T.beside_due T.first_found T.refusal T.reserved T.turned_down T.start_refusal T.unless_refused C.after_start C.reported C.put_in C.effect C.timed_adds C.leaves C.adds BV.drive_letter BV.report_values BV.view_value BV.mark_letter RD.spi_write RD.action_write RD.i2c_write RD.timed_does RD.does RL.after RL.answers RL.accepted RL.zeroed RL.met_zero RL.last_kept RB.operation RB.completing RB.cutting RB.supplied RB.runs RB.accepted_write RB.of_write RB.began RB.changed_at RB.entered RB.booked
-of_brown_out = record { start_accepted = refl; supply_accepted = refl; from_zero = refl; cells = refl }
-
-of_twice : Comes stock_start twice second_end 3000 (image_with 0x55 150)
-unfolding LB.all_shifted_in LI.iterate NC.mixed NC.low_half NC.threshold NC.crossing NC.bits_where NC.byte FF.pushed FF.full FF.answered FM.tabulate FM.ring FM.sumZ FM.mean NR.sets NR.clears NR.raised NR.active NR.observe NR.fires NR.counted NP.motion_output NP.threshold_output NP.output NP.enables_motion NP.verifying_motion NP.candidate NP.verifying NS.configure NS.restart_acquisition NS.reset NS.axis NS.moved NS.moves NS.count_motion NS.qualifies NS.alerts NS.detects NS.decide NS.observation NS.cycle NS.shorten NS.lapsed NS.ended NS.millisecond IB.data_moves IB.edge IB.is_condition IB.is_start IB.is_rise IB.is_fall IB.data_at IE.conditioned IE.acknowledging IE.within_byte IE.pointer_after IE.bit_taken IE.byte_step IE.at_ninth IE.followed IE.acknowledge_step IE.answered IE.answer IE.answer_step IE.ninth_step IE.addressed IE.received IE.completes IE.completed IE.step IE.uses_as IE.uses_at_rise IE.reads_next IE.goes_on IE.uses_at_fall IE.consumes_conversion Ra.unwritable Ra.working Ra.stored Ra.image_blocks Ra.sleep_blocks Ra.locked Ra.ignores Ra.begins Ra.unreadable Ra.withheld RC.held RC.signed_ten RC.range_g RC.code RC.temperature DD.is_set DD.is_at DD.is_by DD.sooner DD.unless_at DD.later DD.first DD.earliest CW.written_control CW.written_register CW.kind_of_write CW.self_test CW.sleep CA.holds CA.pauses_again CA.may_pause CL.acquisition_cycles SF.differs SF.select SF.reads SF.first_bit SF.addressed SF.completed SF.take_bit SF.moves SF.fetches SF.shifts SF.bit_drive SF.level SF.next_bit SF.moved SF.consumes_at_rise SF.consumes_at_fall RR.is_acceleration RR.is_shadowed RR.pair RR.high_byte RR.prepared RR.read_began SP.converted SP.all_new SP.ready SP.interval SP.observing SP.observed SP.scanned SP.test_counted SP.axis_phase SP.sample_phase SP.ticks_now SP.ticked SP.sample BR.away BR.cold_of BR.runs BR.tests Bi.cell_byte Bi.with_cell Bi.image_at Bi.shadowing BC.pause_end BC.shows_new_data BC.interrupt BC.pause_restarted BC.interrupt_held BC.pause_if_idle BC.automatic_control BC.reset_time BG.shown BG.peek BG.mark BG.mark_of BG.fetched BG.counts_as_read BG.byte_read BW.recounted BW.interrupts_written BW.tested BW.slept BW.image_written BW.mode_written BW.register_effect BW.write_effect BS.samples_run BS.next_sample BS.write_end BS.sample_due BS.next_deadline BS.limit BS.caught_up BS.samples_on_demand BS.sync_local_until BL.selected_to BL.may_select BE.moved BE.first_bit_taken BE.write_done BE.spi_listens BE.rising_effect BE.rise_synced BE.fall_synced BE.falling_effect BP.i2c_listens BP.ones_for BP.acted BP.i2c_pins BP.pins_synced BO.spi_drives BO.output BO.i2c_holds BO.data_output BU.cut BU.turned ST.held ST.turned BU.zero_while_off BU.reacquired BU.returned BU.supply_low BU.supply_ok BU.set_supply BD.pause_ended BD.write_ended BD.image_ended BD.wake_ended BD.sample_ended BD.verifies TF.timed_facts TF.facts T.refusal_number T.number T.wrong_length T.beyond T.any_beyond T.out_of_range T.jumps T.late T.too_late T.goes_back T.due_by T.before_due T.due_at T.beside_due T.first_found T.refusal T.reserved T.turned_down T.start_refusal T.unless_refused C.after_start C.reported C.put_in C.effect C.timed_adds C.leaves C.adds BV.drive_letter BV.report_values BV.view_value BV.mark_letter RD.spi_write RD.action_write RD.i2c_write RD.timed_does RD.does RL.after RL.answers RL.accepted RL.zeroed RL.met_zero RL.last_kept RB.operation RB.completing RB.cutting RB.supplied RB.runs RB.accepted_write RB.of_write RB.began RB.changed_at RB.entered RB.booked
-of_twice = record { start_accepted = refl; supply_accepted = refl; from_zero = refl; cells = refl }
-
-of_two : Comes stock_start two_writes return 3000 (image_with 255 2)
-unfolding LB.all_shifted_in LI.iterate NC.mixed NC.low_half NC.threshold NC.crossing NC.bits_where NC.byte FF.pushed FF.full FF.answered FM.tabulate FM.ring FM.sumZ FM.mean NR.sets NR.clears NR.raised NR.active NR.observe NR.fires NR.counted NP.motion_output NP.threshold_output NP.output NP.enables_motion NP.verifying_motion NP.candidate NP.verifying NS.configure NS.restart_acquisition NS.reset NS.axis NS.moved NS.moves NS.count_motion NS.qualifies NS.alerts NS.detects NS.decide NS.observation NS.cycle NS.shorten NS.lapsed NS.ended NS.millisecond IB.data_moves IB.edge IB.is_condition IB.is_start IB.is_rise IB.is_fall IB.data_at IE.conditioned IE.acknowledging IE.within_byte IE.pointer_after IE.bit_taken IE.byte_step IE.at_ninth IE.followed IE.acknowledge_step IE.answered IE.answer IE.answer_step IE.ninth_step IE.addressed IE.received IE.completes IE.completed IE.step IE.uses_as IE.uses_at_rise IE.reads_next IE.goes_on IE.uses_at_fall IE.consumes_conversion Ra.unwritable Ra.working Ra.stored Ra.image_blocks Ra.sleep_blocks Ra.locked Ra.ignores Ra.begins Ra.unreadable Ra.withheld RC.held RC.signed_ten RC.range_g RC.code RC.temperature DD.is_set DD.is_at DD.is_by DD.sooner DD.unless_at DD.later DD.first DD.earliest CW.written_control CW.written_register CW.kind_of_write CW.self_test CW.sleep CA.holds CA.pauses_again CA.may_pause CL.acquisition_cycles SF.differs SF.select SF.reads SF.first_bit SF.addressed SF.completed SF.take_bit SF.moves SF.fetches SF.shifts SF.bit_drive SF.level SF.next_bit SF.moved SF.consumes_at_rise SF.consumes_at_fall RR.is_acceleration RR.is_shadowed RR.pair RR.high_byte RR.prepared RR.read_began SP.converted SP.all_new SP.ready SP.interval SP.observing SP.observed SP.scanned SP.test_counted SP.axis_phase SP.sample_phase SP.ticks_now SP.ticked SP.sample BR.away BR.cold_of BR.runs BR.tests Bi.cell_byte Bi.with_cell Bi.image_at Bi.shadowing BC.pause_end BC.shows_new_data BC.interrupt BC.pause_restarted BC.interrupt_held BC.pause_if_idle BC.automatic_control BC.reset_time BG.shown BG.peek BG.mark BG.mark_of BG.fetched BG.counts_as_read BG.byte_read BW.recounted BW.interrupts_written BW.tested BW.slept BW.image_written BW.mode_written BW.register_effect BW.write_effect BS.samples_run BS.next_sample BS.write_end BS.sample_due BS.next_deadline BS.limit BS.caught_up BS.samples_on_demand BS.sync_local_until BL.selected_to BL.may_select BE.moved BE.first_bit_taken BE.write_done BE.spi_listens BE.rising_effect BE.rise_synced BE.fall_synced BE.falling_effect BP.i2c_listens BP.ones_for BP.acted BP.i2c_pins BP.pins_synced BO.spi_drives BO.output BO.i2c_holds BO.data_output BU.cut BU.turned ST.held ST.turned BU.zero_while_off BU.reacquired BU.returned BU.supply_low BU.supply_ok BU.set_supply BD.pause_ended BD.write_ended BD.image_ended BD.wake_ended BD.sample_ended BD.verifies TF.timed_facts TF.facts T.refusal_number T.number T.wrong_length T.beyond T.any_beyond T.out_of_range T.jumps T.late T.too_late T.goes_back T.due_by T.before_due T.due_at T.beside_due T.first_found T.refusal T.reserved T.turned_down T.start_refusal T.unless_refused C.after_start C.reported C.put_in C.effect C.timed_adds C.leaves C.adds BV.drive_letter BV.report_values BV.view_value BV.mark_letter RD.spi_write RD.action_write RD.i2c_write RD.timed_does RD.does RL.after RL.answers RL.accepted RL.zeroed RL.met_zero RL.last_kept RB.operation RB.completing RB.cutting RB.supplied RB.runs RB.accepted_write RB.of_write RB.began RB.changed_at RB.entered RB.booked
-of_two = record { start_accepted = refl; supply_accepted = refl; from_zero = refl; cells = refl }
-
-of_other : Comes other_start no_write return 2400 (image_with 255 2)
-unfolding LB.all_shifted_in LI.iterate NC.mixed NC.low_half NC.threshold NC.crossing NC.bits_where NC.byte FF.pushed FF.full FF.answered FM.tabulate FM.ring FM.sumZ FM.mean NR.sets NR.clears NR.raised NR.active NR.observe NR.fires NR.counted NP.motion_output NP.threshold_output NP.output NP.enables_motion NP.verifying_motion NP.candidate NP.verifying NS.configure NS.restart_acquisition NS.reset NS.axis NS.moved NS.moves NS.count_motion NS.qualifies NS.alerts NS.detects NS.decide NS.observation NS.cycle NS.shorten NS.lapsed NS.ended NS.millisecond IB.data_moves IB.edge IB.is_condition IB.is_start IB.is_rise IB.is_fall IB.data_at IE.conditioned IE.acknowledging IE.within_byte IE.pointer_after IE.bit_taken IE.byte_step IE.at_ninth IE.followed IE.acknowledge_step IE.answered IE.answer IE.answer_step IE.ninth_step IE.addressed IE.received IE.completes IE.completed IE.step IE.uses_as IE.uses_at_rise IE.reads_next IE.goes_on IE.uses_at_fall IE.consumes_conversion Ra.unwritable Ra.working Ra.stored Ra.image_blocks Ra.sleep_blocks Ra.locked Ra.ignores Ra.begins Ra.unreadable Ra.withheld RC.held RC.signed_ten RC.range_g RC.code RC.temperature DD.is_set DD.is_at DD.is_by DD.sooner DD.unless_at DD.later DD.first DD.earliest CW.written_control CW.written_register CW.kind_of_write CW.self_test CW.sleep CA.holds CA.pauses_again CA.may_pause CL.acquisition_cycles SF.differs SF.select SF.reads SF.first_bit SF.addressed SF.completed SF.take_bit SF.moves SF.fetches SF.shifts SF.bit_drive SF.level SF.next_bit SF.moved SF.consumes_at_rise SF.consumes_at_fall RR.is_acceleration RR.is_shadowed RR.pair RR.high_byte RR.prepared RR.read_began SP.converted SP.all_new SP.ready SP.interval SP.observing SP.observed SP.scanned SP.test_counted SP.axis_phase SP.sample_phase SP.ticks_now SP.ticked SP.sample BR.away BR.cold_of BR.runs BR.tests Bi.cell_byte Bi.with_cell Bi.image_at Bi.shadowing BC.pause_end BC.shows_new_data BC.interrupt BC.pause_restarted BC.interrupt_held BC.pause_if_idle BC.automatic_control BC.reset_time BG.shown BG.peek BG.mark BG.mark_of BG.fetched BG.counts_as_read BG.byte_read BW.recounted BW.interrupts_written BW.tested BW.slept BW.image_written BW.mode_written BW.register_effect BW.write_effect BS.samples_run BS.next_sample BS.write_end BS.sample_due BS.next_deadline BS.limit BS.caught_up BS.samples_on_demand BS.sync_local_until BL.selected_to BL.may_select BE.moved BE.first_bit_taken BE.write_done BE.spi_listens BE.rising_effect BE.rise_synced BE.fall_synced BE.falling_effect BP.i2c_listens BP.ones_for BP.acted BP.i2c_pins BP.pins_synced BO.spi_drives BO.output BO.i2c_holds BO.data_output BU.cut BU.turned ST.held ST.turned BU.zero_while_off BU.reacquired BU.returned BU.supply_low BU.supply_ok BU.set_supply BD.pause_ended BD.write_ended BD.image_ended BD.wake_ended BD.sample_ended BD.verifies TF.timed_facts TF.facts T.refusal_number T.number T.wrong_length T.beyond T.any_beyond T.out_of_range T.jumps T.late T.too_late T.goes_back T.due_by T.before_due T.due_at T.beside_due T.first_found T.refusal T.reserved T.turned_down T.start_refusal T.unless_refused C.after_start C.reported C.put_in C.effect C.timed_adds C.leaves C.adds BV.drive_letter BV.report_values BV.view_value BV.mark_letter RD.spi_write RD.action_write RD.i2c_write RD.timed_does RD.does RL.after RL.answers RL.accepted RL.zeroed RL.met_zero RL.last_kept RB.operation RB.completing RB.cutting RB.supplied RB.runs RB.accepted_write RB.of_write RB.began RB.changed_at RB.entered RB.booked
-of_other = record { start_accepted = refl; supply_accepted = refl; from_zero = refl; cells = refl }
-
-of_storing : Comes stock_start storing completion 3000 reserved_image
-unfolding LB.all_shifted_in LI.iterate NC.mixed NC.low_half NC.threshold NC.crossing NC.bits_where NC.byte FF.pushed FF.full FF.answered FM.tabulate FM.ring FM.sumZ FM.mean NR.sets NR.clears NR.raised NR.active NR.observe NR.fires NR.counted NP.motion_output NP.threshold_output NP.output NP.enables_motion NP.verifying_motion NP.candidate NP.verifying NS.configure NS.restart_acquisition NS.reset NS.axis NS.moved NS.moves NS.count_motion NS.qualifies NS.alerts NS.detects NS.decide NS.observation NS.cycle NS.shorten NS.lapsed NS.ended NS.millisecond IB.data_moves IB.edge IB.is_condition IB.is_start IB.is_rise IB.is_fall IB.data_at IE.conditioned IE.acknowledging IE.within_byte IE.pointer_after IE.bit_taken IE.byte_step IE.at_ninth IE.followed IE.acknowledge_step IE.answered IE.answer IE.answer_step IE.ninth_step IE.addressed IE.received IE.completes IE.completed IE.step IE.uses_as IE.uses_at_rise IE.reads_next IE.goes_on IE.uses_at_fall IE.consumes_conversion Ra.unwritable Ra.working Ra.stored Ra.image_blocks Ra.sleep_blocks Ra.locked Ra.ignores Ra.begins Ra.unreadable Ra.withheld RC.held RC.signed_ten RC.range_g RC.code RC.temperature DD.is_set DD.is_at DD.is_by DD.sooner DD.unless_at DD.later DD.first DD.earliest CW.written_control CW.written_register CW.kind_of_write CW.self_test CW.sleep CA.holds CA.pauses_again CA.may_pause CL.acquisition_cycles SF.differs SF.select SF.reads SF.first_bit SF.addressed SF.completed SF.take_bit SF.moves SF.fetches SF.shifts SF.bit_drive SF.level SF.next_bit SF.moved SF.consumes_at_rise SF.consumes_at_fall RR.is_acceleration RR.is_shadowed RR.pair RR.high_byte RR.prepared RR.read_began SP.converted SP.all_new SP.ready SP.interval SP.observing SP.observed SP.scanned SP.test_counted SP.axis_phase SP.sample_phase SP.ticks_now SP.ticked SP.sample BR.away BR.cold_of BR.runs BR.tests Bi.cell_byte Bi.with_cell Bi.image_at Bi.shadowing BC.pause_end BC.shows_new_data BC.interrupt BC.pause_restarted BC.interrupt_held BC.pause_if_idle BC.automatic_control BC.reset_time BG.shown BG.peek BG.mark BG.mark_of BG.fetched BG.counts_as_read BG.byte_read BW.recounted BW.interrupts_written BW.tested BW.slept BW.image_written BW.mode_written BW.register_effect BW.write_effect BS.samples_run BS.next_sample BS.write_end BS.sample_due BS.next_deadline BS.limit BS.caught_up BS.samples_on_demand BS.sync_local_until BL.selected_to BL.may_select BE.moved BE.first_bit_taken BE.write_done BE.spi_listens BE.rising_effect BE.rise_synced BE.fall_synced BE.falling_effect BP.i2c_listens BP.ones_for BP.acted BP.i2c_pins BP.pins_synced BO.spi_drives BO.output BO.i2c_holds BO.data_output BU.cut BU.turned ST.held ST.turned BU.zero_while_off BU.reacquired BU.returned BU.supply_low BU.supply_ok BU.set_supply BD.pause_ended BD.write_ended BD.image_ended BD.wake_ended BD.sample_ended BD.verifies TF.timed_facts TF.facts T.refusal_number T.number T.wrong_length T.beyond T.any_beyond T.out_of_range T.jumps T.late T.too_late T.goes_back T.due_by T.before_due T.due_at T.beside_due T.first_found T.refusal T.reserved T.turned_down T.start_refusal T.unless_refused C.after_start C.reported C.put_in C.effect C.timed_adds C.leaves C.adds BV.drive_letter BV.report_values BV.view_value BV.mark_letter RD.spi_write RD.action_write RD.i2c_write RD.timed_does RD.does RL.after RL.answers RL.accepted RL.zeroed RL.met_zero RL.last_kept RB.operation RB.completing RB.cutting RB.supplied RB.runs RB.accepted_write RB.of_write RB.began RB.changed_at RB.entered RB.booked
-of_storing = record { start_accepted = refl; supply_accepted = refl; from_zero = refl; cells = refl }
-
-of_stored : Comes stored_start only_zero completion 2400 reserved_image
-unfolding LB.all_shifted_in LI.iterate NC.mixed NC.low_half NC.threshold NC.crossing NC.bits_where NC.byte FF.pushed FF.full FF.answered FM.tabulate FM.ring FM.sumZ FM.mean NR.sets NR.clears NR.raised NR.active NR.observe NR.fires NR.counted NP.motion_output NP.threshold_output NP.output NP.enables_motion NP.verifying_motion NP.candidate NP.verifying NS.configure NS.restart_acquisition NS.reset NS.axis NS.moved NS.moves NS.count_motion NS.qualifies NS.alerts NS.detects NS.decide NS.observation NS.cycle NS.shorten NS.lapsed NS.ended NS.millisecond IB.data_moves IB.edge IB.is_condition IB.is_start IB.is_rise IB.is_fall IB.data_at IE.conditioned IE.acknowledging IE.within_byte IE.pointer_after IE.bit_taken IE.byte_step IE.at_ninth IE.followed IE.acknowledge_step IE.answered IE.answer IE.answer_step IE.ninth_step IE.addressed IE.received IE.completes IE.completed IE.step IE.uses_as IE.uses_at_rise IE.reads_next IE.goes_on IE.uses_at_fall IE.consumes_conversion Ra.unwritable Ra.working Ra.stored Ra.image_blocks Ra.sleep_blocks Ra.locked Ra.ignores Ra.begins Ra.unreadable Ra.withheld RC.held RC.signed_ten RC.range_g RC.code RC.temperature DD.is_set DD.is_at DD.is_by DD.sooner DD.unless_at DD.later DD.first DD.earliest CW.written_control CW.written_register CW.kind_of_write CW.self_test CW.sleep CA.holds CA.pauses_again CA.may_pause CL.acquisition_cycles SF.differs SF.select SF.reads SF.first_bit SF.addressed SF.completed SF.take_bit SF.moves SF.fetches SF.shifts SF.bit_drive SF.level SF.next_bit SF.moved SF.consumes_at_rise SF.consumes_at_fall RR.is_acceleration RR.is_shadowed RR.pair RR.high_byte RR.prepared RR.read_began SP.converted SP.all_new SP.ready SP.interval SP.observing SP.observed SP.scanned SP.test_counted SP.axis_phase SP.sample_phase SP.ticks_now SP.ticked SP.sample BR.away BR.cold_of BR.runs BR.tests Bi.cell_byte Bi.with_cell Bi.image_at Bi.shadowing BC.pause_end BC.shows_new_data BC.interrupt BC.pause_restarted BC.interrupt_held BC.pause_if_idle BC.automatic_control BC.reset_time BG.shown BG.peek BG.mark BG.mark_of BG.fetched BG.counts_as_read BG.byte_read BW.recounted BW.interrupts_written BW.tested BW.slept BW.image_written BW.mode_written BW.register_effect BW.write_effect BS.samples_run BS.next_sample BS.write_end BS.sample_due BS.next_deadline BS.limit BS.caught_up BS.samples_on_demand BS.sync_local_until BL.selected_to BL.may_select BE.moved BE.first_bit_taken BE.write_done BE.spi_listens BE.rising_effect BE.rise_synced BE.fall_synced BE.falling_effect BP.i2c_listens BP.ones_for BP.acted BP.i2c_pins BP.pins_synced BO.spi_drives BO.output BO.i2c_holds BO.data_output BU.cut BU.turned ST.held ST.turned BU.zero_while_off BU.reacquired BU.returned BU.supply_low BU.supply_ok BU.set_supply BD.pause_ended BD.write_ended BD.image_ended BD.wake_ended BD.sample_ended BD.verifies TF.timed_facts TF.facts T.refusal_number T.number T.wrong_length T.beyond T.any_beyond T.out_of_range T.jumps T.late T.too_late T.goes_back T.due_by T.before_due T.due_at T.beside_due T.first_found T.refusal T.reserved T.turned_down T.start_refusal T.unless_refused C.after_start C.reported C.put_in C.effect C.timed_adds C.leaves C.adds BV.drive_letter BV.report_values BV.view_value BV.mark_letter RD.spi_write RD.action_write RD.i2c_write RD.timed_does RD.does RL.after RL.answers RL.accepted RL.zeroed RL.met_zero RL.last_kept RB.operation RB.completing RB.cutting RB.supplied RB.runs RB.accepted_write RB.of_write RB.began RB.changed_at RB.entered RB.booked
-of_stored = record { start_accepted = refl; supply_accepted = refl; from_zero = refl; cells = refl }
-
-reserved_kept : kept stock_start storing ≡ kept stored_start only_zero
-unfolding LB.all_shifted_in LI.iterate NC.mixed NC.low_half NC.threshold NC.crossing NC.bits_where NC.byte FF.pushed FF.full FF.answered FM.tabulate FM.ring FM.sumZ FM.mean NR.sets NR.clears NR.raised NR.active NR.observe NR.fires NR.counted NP.motion_output NP.threshold_output NP.output NP.enables_motion NP.verifying_motion NP.candidate NP.verifying NS.configure NS.restart_acquisition NS.reset NS.axis NS.moved NS.moves NS.count_motion NS.qualifies NS.alerts NS.detects NS.decide NS.observation NS.cycle NS.shorten NS.lapsed NS.ended NS.millisecond IB.data_moves IB.edge IB.is_condition IB.is_start IB.is_rise IB.is_fall IB.data_at IE.conditioned IE.acknowledging IE.within_byte IE.pointer_after IE.bit_taken IE.byte_step IE.at_ninth IE.followed IE.acknowledge_step IE.answered IE.answer IE.answer_step IE.ninth_step IE.addressed IE.received IE.completes IE.completed IE.step IE.uses_as IE.uses_at_rise IE.reads_next IE.goes_on IE.uses_at_fall IE.consumes_conversion Ra.unwritable Ra.working Ra.stored Ra.image_blocks Ra.sleep_blocks Ra.locked Ra.ignores Ra.begins Ra.unreadable Ra.withheld RC.held RC.signed_ten RC.range_g RC.code RC.temperature DD.is_set DD.is_at DD.is_by DD.sooner DD.unless_at DD.later DD.first DD.earliest CW.written_control CW.written_register CW.kind_of_write CW.self_test CW.sleep CA.holds CA.pauses_again CA.may_pause CL.acquisition_cycles SF.differs SF.select SF.reads SF.first_bit SF.addressed SF.completed SF.take_bit SF.moves SF.fetches SF.shifts SF.bit_drive SF.level SF.next_bit SF.moved SF.consumes_at_rise SF.consumes_at_fall RR.is_acceleration RR.is_shadowed RR.pair RR.high_byte RR.prepared RR.read_began SP.converted SP.all_new SP.ready SP.interval SP.observing SP.observed SP.scanned SP.test_counted SP.axis_phase SP.sample_phase SP.ticks_now SP.ticked SP.sample BR.away BR.cold_of BR.runs BR.tests Bi.cell_byte Bi.with_cell Bi.image_at Bi.shadowing BC.pause_end BC.shows_new_data BC.interrupt BC.pause_restarted BC.interrupt_held BC.pause_if_idle BC.automatic_control BC.reset_time BG.shown BG.peek BG.mark BG.mark_of BG.fetched BG.counts_as_read BG.byte_read BW.recounted BW.interrupts_written BW.tested BW.slept BW.image_written BW.mode_written BW.register_effect BW.write_effect BS.samples_run BS.next_sample BS.write_end BS.sample_due BS.next_deadline BS.limit BS.caught_up BS.samples_on_demand BS.sync_local_until BL.selected_to BL.may_select BE.moved BE.first_bit_taken BE.write_done BE.spi_listens BE.rising_effect BE.rise_synced BE.fall_synced BE.falling_effect BP.i2c_listens BP.ones_for BP.acted BP.i2c_pins BP.pins_synced BO.spi_drives BO.output BO.i2c_holds BO.data_output BU.cut BU.turned ST.held ST.turned BU.zero_while_off BU.reacquired BU.returned BU.supply_low BU.supply_ok BU.set_supply BD.pause_ended BD.write_ended BD.image_ended BD.wake_ended BD.sample_ended BD.verifies TF.timed_facts TF.facts T.refusal_number T.number T.wrong_length T.beyond T.any_beyond T.out_of_range T.jumps T.late T.too_late T.goes_back T.due_by T.before_due T.due_at T.beside_due T.first_found T.refusal T.reserved T.turned_down T.start_refusal T.unless_refused C.after_start C.reported C.put_in C.effect C.timed_adds C.leaves C.adds BV.drive_letter BV.report_values BV.view_value BV.mark_letter RD.spi_write RD.action_write RD.i2c_write RD.timed_does RD.does RL.after RL.answers RL.accepted RL.zeroed RL.met_zero RL.last_kept RB.operation RB.completing RB.cutting RB.supplied RB.runs RB.accepted_write RB.of_write RB.began RB.changed_at RB.entered RB.booked
-reserved_kept = refl
-
-same_kept : kept stock_start two_writes ≡ kept other_start no_write
-unfolding LB.all_shifted_in LI.iterate NC.mixed NC.low_half NC.threshold NC.crossing NC.bits_where NC.byte FF.pushed FF.full FF.answered FM.tabulate FM.ring FM.sumZ FM.mean NR.sets NR.clears NR.raised NR.active NR.observe NR.fires NR.counted NP.motion_output NP.threshold_output NP.output NP.enables_motion NP.verifying_motion NP.candidate NP.verifying NS.configure NS.restart_acquisition NS.reset NS.axis NS.moved NS.moves NS.count_motion NS.qualifies NS.alerts NS.detects NS.decide NS.observation NS.cycle NS.shorten NS.lapsed NS.ended NS.millisecond IB.data_moves IB.edge IB.is_condition IB.is_start IB.is_rise IB.is_fall IB.data_at IE.conditioned IE.acknowledging IE.within_byte IE.pointer_after IE.bit_taken IE.byte_step IE.at_ninth IE.followed IE.acknowledge_step IE.answered IE.answer IE.answer_step IE.ninth_step IE.addressed IE.received IE.completes IE.completed IE.step IE.uses_as IE.uses_at_rise IE.reads_next IE.goes_on IE.uses_at_fall IE.consumes_conversion Ra.unwritable Ra.working Ra.stored Ra.image_blocks Ra.sleep_blocks Ra.locked Ra.ignores Ra.begins Ra.unreadable Ra.withheld RC.held RC.signed_ten RC.range_g RC.code RC.temperature DD.is_set DD.is_at DD.is_by DD.sooner DD.unless_at DD.later DD.first DD.earliest CW.written_control CW.written_register CW.kind_of_write CW.self_test CW.sleep CA.holds CA.pauses_again CA.may_pause CL.acquisition_cycles SF.differs SF.select SF.reads SF.first_bit SF.addressed SF.completed SF.take_bit SF.moves SF.fetches SF.shifts SF.bit_drive SF.level SF.next_bit SF.moved SF.consumes_at_rise SF.consumes_at_fall RR.is_acceleration RR.is_shadowed RR.pair RR.high_byte RR.prepared RR.read_began SP.converted SP.all_new SP.ready SP.interval SP.observing SP.observed SP.scanned SP.test_counted SP.axis_phase SP.sample_phase SP.ticks_now SP.ticked SP.sample BR.away BR.cold_of BR.runs BR.tests Bi.cell_byte Bi.with_cell Bi.image_at Bi.shadowing BC.pause_end BC.shows_new_data BC.interrupt BC.pause_restarted BC.interrupt_held BC.pause_if_idle BC.automatic_control BC.reset_time BG.shown BG.peek BG.mark BG.mark_of BG.fetched BG.counts_as_read BG.byte_read BW.recounted BW.interrupts_written BW.tested BW.slept BW.image_written BW.mode_written BW.register_effect BW.write_effect BS.samples_run BS.next_sample BS.write_end BS.sample_due BS.next_deadline BS.limit BS.caught_up BS.samples_on_demand BS.sync_local_until BL.selected_to BL.may_select BE.moved BE.first_bit_taken BE.write_done BE.spi_listens BE.rising_effect BE.rise_synced BE.fall_synced BE.falling_effect BP.i2c_listens BP.ones_for BP.acted BP.i2c_pins BP.pins_synced BO.spi_drives BO.output BO.i2c_holds BO.data_output BU.cut BU.turned ST.held ST.turned BU.zero_while_off BU.reacquired BU.returned BU.supply_low BU.supply_ok BU.set_supply BD.pause_ended BD.write_ended BD.image_ended BD.wake_ended BD.sample_ended BD.verifies TF.timed_facts TF.facts T.refusal_number T.number T.wrong_length T.beyond T.any_beyond T.out_of_range T.jumps T.late T.too_late T.goes_back T.due_by T.before_due T.due_at T.beside_due T.first_found T.refusal T.reserved T.turned_down T.start_refusal T.unless_refused C.after_start C.reported C.put_in C.effect C.timed_adds C.leaves C.adds BV.drive_letter BV.report_values BV.view_value BV.mark_letter RD.spi_write RD.action_write RD.i2c_write RD.timed_does RD.does RL.after RL.answers RL.accepted RL.zeroed RL.met_zero RL.last_kept RB.operation RB.completing RB.cutting RB.supplied RB.runs RB.accepted_write RB.of_write RB.began RB.changed_at RB.entered RB.booked
-same_kept = refl
-
-of_reported_on : Comes stock_start reported_on (time 0) 3000 stock
-unfolding LB.all_shifted_in LI.iterate NC.mixed NC.low_half NC.threshold NC.crossing NC.bits_where NC.byte FF.pushed FF.full FF.answered FM.tabulate FM.ring FM.sumZ FM.mean NR.sets NR.clears NR.raised NR.active NR.observe NR.fires NR.counted NP.motion_output NP.threshold_output NP.output NP.enables_motion NP.verifying_motion NP.candidate NP.verifying NS.configure NS.restart_acquisition NS.reset NS.axis NS.moved NS.moves NS.count_motion NS.qualifies NS.alerts NS.detects NS.decide NS.observation NS.cycle NS.shorten NS.lapsed NS.ended NS.millisecond IB.data_moves IB.edge IB.is_condition IB.is_start IB.is_rise IB.is_fall IB.data_at IE.conditioned IE.acknowledging IE.within_byte IE.pointer_after IE.bit_taken IE.byte_step IE.at_ninth IE.followed IE.acknowledge_step IE.answered IE.answer IE.answer_step IE.ninth_step IE.addressed IE.received IE.completes IE.completed IE.step IE.uses_as IE.uses_at_rise IE.reads_next IE.goes_on IE.uses_at_fall IE.consumes_conversion Ra.unwritable Ra.working Ra.stored Ra.image_blocks Ra.sleep_blocks Ra.locked Ra.ignores Ra.begins Ra.unreadable Ra.withheld RC.held RC.signed_ten RC.range_g RC.code RC.temperature DD.is_set DD.is_at DD.is_by DD.sooner DD.unless_at DD.later DD.first DD.earliest CW.written_control CW.written_register CW.kind_of_write CW.self_test CW.sleep CA.holds CA.pauses_again CA.may_pause CL.acquisition_cycles SF.differs SF.select SF.reads SF.first_bit SF.addressed SF.completed SF.take_bit SF.moves SF.fetches SF.shifts SF.bit_drive SF.level SF.next_bit SF.moved SF.consumes_at_rise SF.consumes_at_fall RR.is_acceleration RR.is_shadowed RR.pair RR.high_byte RR.prepared RR.read_began SP.converted SP.all_new SP.ready SP.interval SP.observing SP.observed SP.scanned SP.test_counted SP.axis_phase SP.sample_phase SP.ticks_now SP.ticked SP.sample BR.away BR.cold_of BR.runs BR.tests Bi.cell_byte Bi.with_cell Bi.image_at Bi.shadowing BC.pause_end BC.shows_new_data BC.interrupt BC.pause_restarted BC.interrupt_held BC.pause_if_idle BC.automatic_control BC.reset_time BG.shown BG.peek BG.mark BG.mark_of BG.fetched BG.counts_as_read BG.byte_read BW.recounted BW.interrupts_written BW.tested BW.slept BW.image_written BW.mode_written BW.register_effect BW.write_effect BS.samples_run BS.next_sample BS.write_end BS.sample_due BS.next_deadline BS.limit BS.caught_up BS.samples_on_demand BS.sync_local_until BL.selected_to BL.may_select BE.moved BE.first_bit_taken BE.write_done BE.spi_listens BE.rising_effect BE.rise_synced BE.fall_synced BE.falling_effect BP.i2c_listens BP.ones_for BP.acted BP.i2c_pins BP.pins_synced BO.spi_drives BO.output BO.i2c_holds BO.data_output BU.cut BU.turned ST.held ST.turned BU.zero_while_off BU.reacquired BU.returned BU.supply_low BU.supply_ok BU.set_supply BD.pause_ended BD.write_ended BD.image_ended BD.wake_ended BD.sample_ended BD.verifies TF.timed_facts TF.facts T.refusal_number T.number T.wrong_length T.beyond T.any_beyond T.out_of_range T.jumps T.late T.too_late T.goes_back T.due_by T.before_due T.due_at T.beside_due T.first_found T.refusal T.reserved T.turned_down T.start_refusal T.unless_refused C.after_start C.reported C.put_in C.effect C.timed_adds C.leaves C.adds BV.drive_letter BV.report_values BV.view_value BV.mark_letter RD.spi_write RD.action_write RD.i2c_write RD.timed_does RD.does RL.after RL.answers RL.accepted RL.zeroed RL.met_zero RL.last_kept RB.operation RB.completing RB.cutting RB.supplied RB.runs RB.accepted_write RB.of_write RB.began RB.changed_at RB.entered RB.booked
-of_reported_on = record { start_accepted = refl; supply_accepted = refl; from_zero = refl; cells = refl }
-
-of_reported_off : Comes stock_start reported_off (time 0) 3000 stock
-unfolding LB.all_shifted_in LI.iterate NC.mixed NC.low_half NC.threshold NC.crossing NC.bits_where NC.byte FF.pushed FF.full FF.answered FM.tabulate FM.ring FM.sumZ FM.mean NR.sets NR.clears NR.raised NR.active NR.observe NR.fires NR.counted NP.motion_output NP.threshold_output NP.output NP.enables_motion NP.verifying_motion NP.candidate NP.verifying NS.configure NS.restart_acquisition NS.reset NS.axis NS.moved NS.moves NS.count_motion NS.qualifies NS.alerts NS.detects NS.decide NS.observation NS.cycle NS.shorten NS.lapsed NS.ended NS.millisecond IB.data_moves IB.edge IB.is_condition IB.is_start IB.is_rise IB.is_fall IB.data_at IE.conditioned IE.acknowledging IE.within_byte IE.pointer_after IE.bit_taken IE.byte_step IE.at_ninth IE.followed IE.acknowledge_step IE.answered IE.answer IE.answer_step IE.ninth_step IE.addressed IE.received IE.completes IE.completed IE.step IE.uses_as IE.uses_at_rise IE.reads_next IE.goes_on IE.uses_at_fall IE.consumes_conversion Ra.unwritable Ra.working Ra.stored Ra.image_blocks Ra.sleep_blocks Ra.locked Ra.ignores Ra.begins Ra.unreadable Ra.withheld RC.held RC.signed_ten RC.range_g RC.code RC.temperature DD.is_set DD.is_at DD.is_by DD.sooner DD.unless_at DD.later DD.first DD.earliest CW.written_control CW.written_register CW.kind_of_write CW.self_test CW.sleep CA.holds CA.pauses_again CA.may_pause CL.acquisition_cycles SF.differs SF.select SF.reads SF.first_bit SF.addressed SF.completed SF.take_bit SF.moves SF.fetches SF.shifts SF.bit_drive SF.level SF.next_bit SF.moved SF.consumes_at_rise SF.consumes_at_fall RR.is_acceleration RR.is_shadowed RR.pair RR.high_byte RR.prepared RR.read_began SP.converted SP.all_new SP.ready SP.interval SP.observing SP.observed SP.scanned SP.test_counted SP.axis_phase SP.sample_phase SP.ticks_now SP.ticked SP.sample BR.away BR.cold_of BR.runs BR.tests Bi.cell_byte Bi.with_cell Bi.image_at Bi.shadowing BC.pause_end BC.shows_new_data BC.interrupt BC.pause_restarted BC.interrupt_held BC.pause_if_idle BC.automatic_control BC.reset_time BG.shown BG.peek BG.mark BG.mark_of BG.fetched BG.counts_as_read BG.byte_read BW.recounted BW.interrupts_written BW.tested BW.slept BW.image_written BW.mode_written BW.register_effect BW.write_effect BS.samples_run BS.next_sample BS.write_end BS.sample_due BS.next_deadline BS.limit BS.caught_up BS.samples_on_demand BS.sync_local_until BL.selected_to BL.may_select BE.moved BE.first_bit_taken BE.write_done BE.spi_listens BE.rising_effect BE.rise_synced BE.fall_synced BE.falling_effect BP.i2c_listens BP.ones_for BP.acted BP.i2c_pins BP.pins_synced BO.spi_drives BO.output BO.i2c_holds BO.data_output BU.cut BU.turned ST.held ST.turned BU.zero_while_off BU.reacquired BU.returned BU.supply_low BU.supply_ok BU.set_supply BD.pause_ended BD.write_ended BD.image_ended BD.wake_ended BD.sample_ended BD.verifies TF.timed_facts TF.facts T.refusal_number T.number T.wrong_length T.beyond T.any_beyond T.out_of_range T.jumps T.late T.too_late T.goes_back T.due_by T.before_due T.due_at T.beside_due T.first_found T.refusal T.reserved T.turned_down T.start_refusal T.unless_refused C.after_start C.reported C.put_in C.effect C.timed_adds C.leaves C.adds BV.drive_letter BV.report_values BV.view_value BV.mark_letter RD.spi_write RD.action_write RD.i2c_write RD.timed_does RD.does RL.after RL.answers RL.accepted RL.zeroed RL.met_zero RL.last_kept RB.operation RB.completing RB.cutting RB.supplied RB.runs RB.accepted_write RB.of_write RB.began RB.changed_at RB.entered RB.booked
-of_reported_off = record { start_accepted = refl; supply_accepted = refl; from_zero = refl; cells = refl }
-
-of_unreported : Comes stock_start unreported (time 0) 3000 stock
-unfolding LB.all_shifted_in LI.iterate NC.mixed NC.low_half NC.threshold NC.crossing NC.bits_where NC.byte FF.pushed FF.full FF.answered FM.tabulate FM.ring FM.sumZ FM.mean NR.sets NR.clears NR.raised NR.active NR.observe NR.fires NR.counted NP.motion_output NP.threshold_output NP.output NP.enables_motion NP.verifying_motion NP.candidate NP.verifying NS.configure NS.restart_acquisition NS.reset NS.axis NS.moved NS.moves NS.count_motion NS.qualifies NS.alerts NS.detects NS.decide NS.observation NS.cycle NS.shorten NS.lapsed NS.ended NS.millisecond IB.data_moves IB.edge IB.is_condition IB.is_start IB.is_rise IB.is_fall IB.data_at IE.conditioned IE.acknowledging IE.within_byte IE.pointer_after IE.bit_taken IE.byte_step IE.at_ninth IE.followed IE.acknowledge_step IE.answered IE.answer IE.answer_step IE.ninth_step IE.addressed IE.received IE.completes IE.completed IE.step IE.uses_as IE.uses_at_rise IE.reads_next IE.goes_on IE.uses_at_fall IE.consumes_conversion Ra.unwritable Ra.working Ra.stored Ra.image_blocks Ra.sleep_blocks Ra.locked Ra.ignores Ra.begins Ra.unreadable Ra.withheld RC.held RC.signed_ten RC.range_g RC.code RC.temperature DD.is_set DD.is_at DD.is_by DD.sooner DD.unless_at DD.later DD.first DD.earliest CW.written_control CW.written_register CW.kind_of_write CW.self_test CW.sleep CA.holds CA.pauses_again CA.may_pause CL.acquisition_cycles SF.differs SF.select SF.reads SF.first_bit SF.addressed SF.completed SF.take_bit SF.moves SF.fetches SF.shifts SF.bit_drive SF.level SF.next_bit SF.moved SF.consumes_at_rise SF.consumes_at_fall RR.is_acceleration RR.is_shadowed RR.pair RR.high_byte RR.prepared RR.read_began SP.converted SP.all_new SP.ready SP.interval SP.observing SP.observed SP.scanned SP.test_counted SP.axis_phase SP.sample_phase SP.ticks_now SP.ticked SP.sample BR.away BR.cold_of BR.runs BR.tests Bi.cell_byte Bi.with_cell Bi.image_at Bi.shadowing BC.pause_end BC.shows_new_data BC.interrupt BC.pause_restarted BC.interrupt_held BC.pause_if_idle BC.automatic_control BC.reset_time BG.shown BG.peek BG.mark BG.mark_of BG.fetched BG.counts_as_read BG.byte_read BW.recounted BW.interrupts_written BW.tested BW.slept BW.image_written BW.mode_written BW.register_effect BW.write_effect BS.samples_run BS.next_sample BS.write_end BS.sample_due BS.next_deadline BS.limit BS.caught_up BS.samples_on_demand BS.sync_local_until BL.selected_to BL.may_select BE.moved BE.first_bit_taken BE.write_done BE.spi_listens BE.rising_effect BE.rise_synced BE.fall_synced BE.falling_effect BP.i2c_listens BP.ones_for BP.acted BP.i2c_pins BP.pins_synced BO.spi_drives BO.output BO.i2c_holds BO.data_output BU.cut BU.turned ST.held ST.turned BU.zero_while_off BU.reacquired BU.returned BU.supply_low BU.supply_ok BU.set_supply BD.pause_ended BD.write_ended BD.image_ended BD.wake_ended BD.sample_ended BD.verifies TF.timed_facts TF.facts T.refusal_number T.number T.wrong_length T.beyond T.any_beyond T.out_of_range T.jumps T.late T.too_late T.goes_back T.due_by T.before_due T.due_at T.beside_due T.first_found T.refusal T.reserved T.turned_down T.start_refusal T.unless_refused C.after_start C.reported C.put_in C.effect C.timed_adds C.leaves C.adds BV.drive_letter BV.report_values BV.view_value BV.mark_letter RD.spi_write RD.action_write RD.i2c_write RD.timed_does RD.does RL.after RL.answers RL.accepted RL.zeroed RL.met_zero RL.last_kept RB.operation RB.completing RB.cutting RB.supplied RB.runs RB.accepted_write RB.of_write RB.began RB.changed_at RB.entered RB.booked
-of_unreported = record { start_accepted = refl; supply_accepted = refl; from_zero = refl; cells = refl }
-
-same_lines : kept stock_start reported_on ≡ kept stock_start reported_off
-unfolding LB.all_shifted_in LI.iterate NC.mixed NC.low_half NC.threshold NC.crossing NC.bits_where NC.byte FF.pushed FF.full FF.answered FM.tabulate FM.ring FM.sumZ FM.mean NR.sets NR.clears NR.raised NR.active NR.observe NR.fires NR.counted NP.motion_output NP.threshold_output NP.output NP.enables_motion NP.verifying_motion NP.candidate NP.verifying NS.configure NS.restart_acquisition NS.reset NS.axis NS.moved NS.moves NS.count_motion NS.qualifies NS.alerts NS.detects NS.decide NS.observation NS.cycle NS.shorten NS.lapsed NS.ended NS.millisecond IB.data_moves IB.edge IB.is_condition IB.is_start IB.is_rise IB.is_fall IB.data_at IE.conditioned IE.acknowledging IE.within_byte IE.pointer_after IE.bit_taken IE.byte_step IE.at_ninth IE.followed IE.acknowledge_step IE.answered IE.answer IE.answer_step IE.ninth_step IE.addressed IE.received IE.completes IE.completed IE.step IE.uses_as IE.uses_at_rise IE.reads_next IE.goes_on IE.uses_at_fall IE.consumes_conversion Ra.unwritable Ra.working Ra.stored Ra.image_blocks Ra.sleep_blocks Ra.locked Ra.ignores Ra.begins Ra.unreadable Ra.withheld RC.held RC.signed_ten RC.range_g RC.code RC.temperature DD.is_set DD.is_at DD.is_by DD.sooner DD.unless_at DD.later DD.first DD.earliest CW.written_control CW.written_register CW.kind_of_write CW.self_test CW.sleep CA.holds CA.pauses_again CA.may_pause CL.acquisition_cycles SF.differs SF.select SF.reads SF.first_bit SF.addressed SF.completed SF.take_bit SF.moves SF.fetches SF.shifts SF.bit_drive SF.level SF.next_bit SF.moved SF.consumes_at_rise SF.consumes_at_fall RR.is_acceleration RR.is_shadowed RR.pair RR.high_byte RR.prepared RR.read_began SP.converted SP.all_new SP.ready SP.interval SP.observing SP.observed SP.scanned SP.test_counted SP.axis_phase SP.sample_phase SP.ticks_now SP.ticked SP.sample BR.away BR.cold_of BR.runs BR.tests Bi.cell_byte Bi.with_cell Bi.image_at Bi.shadowing BC.pause_end BC.shows_new_data BC.interrupt BC.pause_restarted BC.interrupt_held BC.pause_if_idle BC.automatic_control BC.reset_time BG.shown BG.peek BG.mark BG.mark_of BG.fetched BG.counts_as_read BG.byte_read BW.recounted BW.interrupts_written BW.tested BW.slept BW.image_written BW.mode_written BW.register_effect BW.write_effect BS.samples_run BS.next_sample BS.write_end BS.sample_due BS.next_deadline BS.limit BS.caught_up BS.samples_on_demand BS.sync_local_until BL.selected_to BL.may_select BE.moved BE.first_bit_taken BE.write_done BE.spi_listens BE.rising_effect BE.rise_synced BE.fall_synced BE.falling_effect BP.i2c_listens BP.ones_for BP.acted BP.i2c_pins BP.pins_synced BO.spi_drives BO.output BO.i2c_holds BO.data_output BU.cut BU.turned ST.held ST.turned BU.zero_while_off BU.reacquired BU.returned BU.supply_low BU.supply_ok BU.set_supply BD.pause_ended BD.write_ended BD.image_ended BD.wake_ended BD.sample_ended BD.verifies TF.timed_facts TF.facts T.refusal_number T.number T.wrong_length T.beyond T.any_beyond T.out_of_range T.jumps T.late T.too_late T.goes_back T.due_by T.before_due T.due_at T.beside_due T.first_found T.refusal T.reserved T.turned_down T.start_refusal T.unless_refused C.after_start C.reported C.put_in C.effect C.timed_adds C.leaves C.adds BV.drive_letter BV.report_values BV.view_value BV.mark_letter RD.spi_write RD.action_write RD.i2c_write RD.timed_does RD.does RL.after RL.answers RL.accepted RL.zeroed RL.met_zero RL.last_kept RB.operation RB.completing RB.cutting RB.supplied RB.runs RB.accepted_write RB.of_write RB.began RB.changed_at RB.entered RB.booked
-same_lines = refl
-
--- acceleration and temperature are the same without a report, and yet the next START is answered otherwise
-same_input : (kept stock_start reported_on).input ≡ (kept stock_start unreported).input
-unfolding LB.all_shifted_in LI.iterate NC.mixed NC.low_half NC.threshold NC.crossing NC.bits_where NC.byte FF.pushed FF.full FF.answered FM.tabulate FM.ring FM.sumZ FM.mean NR.sets NR.clears NR.raised NR.active NR.observe NR.fires NR.counted NP.motion_output NP.threshold_output NP.output NP.enables_motion NP.verifying_motion NP.candidate NP.verifying NS.configure NS.restart_acquisition NS.reset NS.axis NS.moved NS.moves NS.count_motion NS.qualifies NS.alerts NS.detects NS.decide NS.observation NS.cycle NS.shorten NS.lapsed NS.ended NS.millisecond IB.data_moves IB.edge IB.is_condition IB.is_start IB.is_rise IB.is_fall IB.data_at IE.conditioned IE.acknowledging IE.within_byte IE.pointer_after IE.bit_taken IE.byte_step IE.at_ninth IE.followed IE.acknowledge_step IE.answered IE.answer IE.answer_step IE.ninth_step IE.addressed IE.received IE.completes IE.completed IE.step IE.uses_as IE.uses_at_rise IE.reads_next IE.goes_on IE.uses_at_fall IE.consumes_conversion Ra.unwritable Ra.working Ra.stored Ra.image_blocks Ra.sleep_blocks Ra.locked Ra.ignores Ra.begins Ra.unreadable Ra.withheld RC.held RC.signed_ten RC.range_g RC.code RC.temperature DD.is_set DD.is_at DD.is_by DD.sooner DD.unless_at DD.later DD.first DD.earliest CW.written_control CW.written_register CW.kind_of_write CW.self_test CW.sleep CA.holds CA.pauses_again CA.may_pause CL.acquisition_cycles SF.differs SF.select SF.reads SF.first_bit SF.addressed SF.completed SF.take_bit SF.moves SF.fetches SF.shifts SF.bit_drive SF.level SF.next_bit SF.moved SF.consumes_at_rise SF.consumes_at_fall RR.is_acceleration RR.is_shadowed RR.pair RR.high_byte RR.prepared RR.read_began SP.converted SP.all_new SP.ready SP.interval SP.observing SP.observed SP.scanned SP.test_counted SP.axis_phase SP.sample_phase SP.ticks_now SP.ticked SP.sample BR.away BR.cold_of BR.runs BR.tests Bi.cell_byte Bi.with_cell Bi.image_at Bi.shadowing BC.pause_end BC.shows_new_data BC.interrupt BC.pause_restarted BC.interrupt_held BC.pause_if_idle BC.automatic_control BC.reset_time BG.shown BG.peek BG.mark BG.mark_of BG.fetched BG.counts_as_read BG.byte_read BW.recounted BW.interrupts_written BW.tested BW.slept BW.image_written BW.mode_written BW.register_effect BW.write_effect BS.samples_run BS.next_sample BS.write_end BS.sample_due BS.next_deadline BS.limit BS.caught_up BS.samples_on_demand BS.sync_local_until BL.selected_to BL.may_select BE.moved BE.first_bit_taken BE.write_done BE.spi_listens BE.rising_effect BE.rise_synced BE.fall_synced BE.falling_effect BP.i2c_listens BP.ones_for BP.acted BP.i2c_pins BP.pins_synced BO.spi_drives BO.output BO.i2c_holds BO.data_output BU.cut BU.turned ST.held ST.turned BU.zero_while_off BU.reacquired BU.returned BU.supply_low BU.supply_ok BU.set_supply BD.pause_ended BD.write_ended BD.image_ended BD.wake_ended BD.sample_ended BD.verifies TF.timed_facts TF.facts T.refusal_number T.number T.wrong_length T.beyond T.any_beyond T.out_of_range T.jumps T.late T.too_late T.goes_back T.due_by T.before_due T.due_at T.beside_due T.first_found T.refusal T.reserved T.turned_down T.start_refusal T.unless_refused C.after_start C.reported C.put_in C.effect C.timed_adds C.leaves C.adds BV.drive_letter BV.report_values BV.view_value BV.mark_letter RD.spi_write RD.action_write RD.i2c_write RD.timed_does RD.does RL.after RL.answers RL.accepted RL.zeroed RL.met_zero RL.last_kept RB.operation RB.completing RB.cutting RB.supplied RB.runs RB.accepted_write RB.of_write RB.began RB.changed_at RB.entered RB.booked
-same_input = refl
-
-jumps_then : number (left stock_start reported_on (time 0) 3000) start_report ≡ 8
-unfolding LB.all_shifted_in LI.iterate NC.mixed NC.low_half NC.threshold NC.crossing NC.bits_where NC.byte FF.pushed FF.full FF.answered FM.tabulate FM.ring FM.sumZ FM.mean NR.sets NR.clears NR.raised NR.active NR.observe NR.fires NR.counted NP.motion_output NP.threshold_output NP.output NP.enables_motion NP.verifying_motion NP.candidate NP.verifying NS.configure NS.restart_acquisition NS.reset NS.axis NS.moved NS.moves NS.count_motion NS.qualifies NS.alerts NS.detects NS.decide NS.observation NS.cycle NS.shorten NS.lapsed NS.ended NS.millisecond IB.data_moves IB.edge IB.is_condition IB.is_start IB.is_rise IB.is_fall IB.data_at IE.conditioned IE.acknowledging IE.within_byte IE.pointer_after IE.bit_taken IE.byte_step IE.at_ninth IE.followed IE.acknowledge_step IE.answered IE.answer IE.answer_step IE.ninth_step IE.addressed IE.received IE.completes IE.completed IE.step IE.uses_as IE.uses_at_rise IE.reads_next IE.goes_on IE.uses_at_fall IE.consumes_conversion Ra.unwritable Ra.working Ra.stored Ra.image_blocks Ra.sleep_blocks Ra.locked Ra.ignores Ra.begins Ra.unreadable Ra.withheld RC.held RC.signed_ten RC.range_g RC.code RC.temperature DD.is_set DD.is_at DD.is_by DD.sooner DD.unless_at DD.later DD.first DD.earliest CW.written_control CW.written_register CW.kind_of_write CW.self_test CW.sleep CA.holds CA.pauses_again CA.may_pause CL.acquisition_cycles SF.differs SF.select SF.reads SF.first_bit SF.addressed SF.completed SF.take_bit SF.moves SF.fetches SF.shifts SF.bit_drive SF.level SF.next_bit SF.moved SF.consumes_at_rise SF.consumes_at_fall RR.is_acceleration RR.is_shadowed RR.pair RR.high_byte RR.prepared RR.read_began SP.converted SP.all_new SP.ready SP.interval SP.observing SP.observed SP.scanned SP.test_counted SP.axis_phase SP.sample_phase SP.ticks_now SP.ticked SP.sample BR.away BR.cold_of BR.runs BR.tests Bi.cell_byte Bi.with_cell Bi.image_at Bi.shadowing BC.pause_end BC.shows_new_data BC.interrupt BC.pause_restarted BC.interrupt_held BC.pause_if_idle BC.automatic_control BC.reset_time BG.shown BG.peek BG.mark BG.mark_of BG.fetched BG.counts_as_read BG.byte_read BW.recounted BW.interrupts_written BW.tested BW.slept BW.image_written BW.mode_written BW.register_effect BW.write_effect BS.samples_run BS.next_sample BS.write_end BS.sample_due BS.next_deadline BS.limit BS.caught_up BS.samples_on_demand BS.sync_local_until BL.selected_to BL.may_select BE.moved BE.first_bit_taken BE.write_done BE.spi_listens BE.rising_effect BE.rise_synced BE.fall_synced BE.falling_effect BP.i2c_listens BP.ones_for BP.acted BP.i2c_pins BP.pins_synced BO.spi_drives BO.output BO.i2c_holds BO.data_output BU.cut BU.turned ST.held ST.turned BU.zero_while_off BU.reacquired BU.returned BU.supply_low BU.supply_ok BU.set_supply BD.pause_ended BD.write_ended BD.image_ended BD.wake_ended BD.sample_ended BD.verifies TF.timed_facts TF.facts T.refusal_number T.number T.wrong_length T.beyond T.any_beyond T.out_of_range T.jumps T.late T.too_late T.goes_back T.due_by T.before_due T.due_at T.beside_due T.first_found T.refusal T.reserved T.turned_down T.start_refusal T.unless_refused C.after_start C.reported C.put_in C.effect C.timed_adds C.leaves C.adds BV.drive_letter BV.report_values BV.view_value BV.mark_letter RD.spi_write RD.action_write RD.i2c_write RD.timed_does RD.does RL.after RL.answers RL.accepted RL.zeroed RL.met_zero RL.last_kept RB.operation RB.completing RB.cutting RB.supplied RB.runs RB.accepted_write RB.of_write RB.began RB.changed_at RB.entered RB.booked
-jumps_then = refl
-
-follows_then : number (left stock_start unreported (time 0) 3000) start_report ≡ 0
-unfolding LB.all_shifted_in LI.iterate NC.mixed NC.low_half NC.threshold NC.crossing NC.bits_where NC.byte FF.pushed FF.full FF.answered FM.tabulate FM.ring FM.sumZ FM.mean NR.sets NR.clears NR.raised NR.active NR.observe NR.fires NR.counted NP.motion_output NP.threshold_output NP.output NP.enables_motion NP.verifying_motion NP.candidate NP.verifying NS.configure NS.restart_acquisition NS.reset NS.axis NS.moved NS.moves NS.count_motion NS.qualifies NS.alerts NS.detects NS.decide NS.observation NS.cycle NS.shorten NS.lapsed NS.ended NS.millisecond IB.data_moves IB.edge IB.is_condition IB.is_start IB.is_rise IB.is_fall IB.data_at IE.conditioned IE.acknowledging IE.within_byte IE.pointer_after IE.bit_taken IE.byte_step IE.at_ninth IE.followed IE.acknowledge_step IE.answered IE.answer IE.answer_step IE.ninth_step IE.addressed IE.received IE.completes IE.completed IE.step IE.uses_as IE.uses_at_rise IE.reads_next IE.goes_on IE.uses_at_fall IE.consumes_conversion Ra.unwritable Ra.working Ra.stored Ra.image_blocks Ra.sleep_blocks Ra.locked Ra.ignores Ra.begins Ra.unreadable Ra.withheld RC.held RC.signed_ten RC.range_g RC.code RC.temperature DD.is_set DD.is_at DD.is_by DD.sooner DD.unless_at DD.later DD.first DD.earliest CW.written_control CW.written_register CW.kind_of_write CW.self_test CW.sleep CA.holds CA.pauses_again CA.may_pause CL.acquisition_cycles SF.differs SF.select SF.reads SF.first_bit SF.addressed SF.completed SF.take_bit SF.moves SF.fetches SF.shifts SF.bit_drive SF.level SF.next_bit SF.moved SF.consumes_at_rise SF.consumes_at_fall RR.is_acceleration RR.is_shadowed RR.pair RR.high_byte RR.prepared RR.read_began SP.converted SP.all_new SP.ready SP.interval SP.observing SP.observed SP.scanned SP.test_counted SP.axis_phase SP.sample_phase SP.ticks_now SP.ticked SP.sample BR.away BR.cold_of BR.runs BR.tests Bi.cell_byte Bi.with_cell Bi.image_at Bi.shadowing BC.pause_end BC.shows_new_data BC.interrupt BC.pause_restarted BC.interrupt_held BC.pause_if_idle BC.automatic_control BC.reset_time BG.shown BG.peek BG.mark BG.mark_of BG.fetched BG.counts_as_read BG.byte_read BW.recounted BW.interrupts_written BW.tested BW.slept BW.image_written BW.mode_written BW.register_effect BW.write_effect BS.samples_run BS.next_sample BS.write_end BS.sample_due BS.next_deadline BS.limit BS.caught_up BS.samples_on_demand BS.sync_local_until BL.selected_to BL.may_select BE.moved BE.first_bit_taken BE.write_done BE.spi_listens BE.rising_effect BE.rise_synced BE.fall_synced BE.falling_effect BP.i2c_listens BP.ones_for BP.acted BP.i2c_pins BP.pins_synced BO.spi_drives BO.output BO.i2c_holds BO.data_output BU.cut BU.turned ST.held ST.turned BU.zero_while_off BU.reacquired BU.returned BU.supply_low BU.supply_ok BU.set_supply BD.pause_ended BD.write_ended BD.image_ended BD.wake_ended BD.sample_ended BD.verifies TF.timed_facts TF.facts T.refusal_number T.number T.wrong_length T.beyond T.any_beyond T.out_of_range T.jumps T.late T.too_late T.goes_back T.due_by T.before_due T.due_at T.beside_due T.first_found T.refusal T.reserved T.turned_down T.start_refusal T.unless_refused C.after_start C.reported C.put_in C.effect C.timed_adds C.leaves C.adds BV.drive_letter BV.report_values BV.view_value BV.mark_letter RD.spi_write RD.action_write RD.i2c_write RD.timed_does RD.does RL.after RL.answers RL.accepted RL.zeroed RL.met_zero RL.last_kept RB.operation RB.completing RB.cutting RB.supplied RB.runs RB.accepted_write RB.of_write RB.began RB.changed_at RB.entered RB.booked
-follows_then = refl
-
-i2c_so_far : I2cSoFar stock_start i2c_before i2c_within 0x2c 0xff
-unfolding LB.all_shifted_in LI.iterate NC.mixed NC.low_half NC.threshold NC.crossing NC.bits_where NC.byte FF.pushed FF.full FF.answered FM.tabulate FM.ring FM.sumZ FM.mean NR.sets NR.clears NR.raised NR.active NR.observe NR.fires NR.counted NP.motion_output NP.threshold_output NP.output NP.enables_motion NP.verifying_motion NP.candidate NP.verifying NS.configure NS.restart_acquisition NS.reset NS.axis NS.moved NS.moves NS.count_motion NS.qualifies NS.alerts NS.detects NS.decide NS.observation NS.cycle NS.shorten NS.lapsed NS.ended NS.millisecond IB.data_moves IB.edge IB.is_condition IB.is_start IB.is_rise IB.is_fall IB.data_at IE.conditioned IE.acknowledging IE.within_byte IE.pointer_after IE.bit_taken IE.byte_step IE.at_ninth IE.followed IE.acknowledge_step IE.answered IE.answer IE.answer_step IE.ninth_step IE.addressed IE.received IE.completes IE.completed IE.step IE.uses_as IE.uses_at_rise IE.reads_next IE.goes_on IE.uses_at_fall IE.consumes_conversion Ra.unwritable Ra.working Ra.stored Ra.image_blocks Ra.sleep_blocks Ra.locked Ra.ignores Ra.begins Ra.unreadable Ra.withheld RC.held RC.signed_ten RC.range_g RC.code RC.temperature DD.is_set DD.is_at DD.is_by DD.sooner DD.unless_at DD.later DD.first DD.earliest CW.written_control CW.written_register CW.kind_of_write CW.self_test CW.sleep CA.holds CA.pauses_again CA.may_pause CL.acquisition_cycles SF.differs SF.select SF.reads SF.first_bit SF.addressed SF.completed SF.take_bit SF.moves SF.fetches SF.shifts SF.bit_drive SF.level SF.next_bit SF.moved SF.consumes_at_rise SF.consumes_at_fall RR.is_acceleration RR.is_shadowed RR.pair RR.high_byte RR.prepared RR.read_began SP.converted SP.all_new SP.ready SP.interval SP.observing SP.observed SP.scanned SP.test_counted SP.axis_phase SP.sample_phase SP.ticks_now SP.ticked SP.sample BR.away BR.cold_of BR.runs BR.tests Bi.cell_byte Bi.with_cell Bi.image_at Bi.shadowing BC.pause_end BC.shows_new_data BC.interrupt BC.pause_restarted BC.interrupt_held BC.pause_if_idle BC.automatic_control BC.reset_time BG.shown BG.peek BG.mark BG.mark_of BG.fetched BG.counts_as_read BG.byte_read BW.recounted BW.interrupts_written BW.tested BW.slept BW.image_written BW.mode_written BW.register_effect BW.write_effect BS.samples_run BS.next_sample BS.write_end BS.sample_due BS.next_deadline BS.limit BS.caught_up BS.samples_on_demand BS.sync_local_until BL.selected_to BL.may_select BE.moved BE.first_bit_taken BE.write_done BE.spi_listens BE.rising_effect BE.rise_synced BE.fall_synced BE.falling_effect BP.i2c_listens BP.ones_for BP.acted BP.i2c_pins BP.pins_synced BO.spi_drives BO.output BO.i2c_holds BO.data_output BU.cut BU.turned ST.held ST.turned BU.zero_while_off BU.reacquired BU.returned BU.supply_low BU.supply_ok BU.set_supply BD.pause_ended BD.write_ended BD.image_ended BD.wake_ended BD.sample_ended BD.verifies TF.timed_facts TF.facts T.refusal_number T.number T.wrong_length T.beyond T.any_beyond T.out_of_range T.jumps T.late T.too_late T.goes_back T.due_by T.before_due T.due_at T.beside_due T.first_found T.refusal T.reserved T.turned_down T.start_refusal T.unless_refused C.after_start C.reported C.put_in C.effect C.timed_adds C.leaves C.adds BV.drive_letter BV.report_values BV.view_value BV.mark_letter RD.spi_write RD.action_write RD.i2c_write RD.timed_does RD.does RL.after RL.answers RL.accepted RL.zeroed RL.met_zero RL.last_kept RB.operation RB.completing RB.cutting RB.supplied RB.runs RB.accepted_write RB.of_write RB.began RB.changed_at RB.entered RB.booked BB.timed_event BB.event BB.events BB.is_reset BB.resets BB.timed_ends BB.ends BB.ended IT.and_edge IT.clocked
-i2c_so_far = record {
-  start_accepted = refl;
-  fractions = i2c_fractions;
-  heard = record { on = refl; ready = refl; unselected = refl; at_rest = refl; loud = refl };
-  still_heard = refl;
-  register_byte = lit< tt;
-  value_byte = lit< tt;
-  address_acknowledged = false;
-  register_acknowledged = false;
-  brings = refl;
-  now = time 0;
-  before = lines false true;
-  next = lines true true;
-  fraction = lit< tt;
-  last_bit = refl;
-  last_accepted = refl;
+computed : Computed
+unfolding LB.all_shifted_in LI.iterate NC.mixed NC.low_half NC.threshold NC.crossing NC.bits_where NC.byte FF.pushed FF.full FF.answered FM.tabulate FM.ring FM.sumZ FM.mean NR.sets NR.clears NR.raised NR.active NR.observe NR.fires NR.counted NP.motion_output NP.threshold_output NP.output NP.enables_motion NP.verifying_motion NP.candidate NP.verifying NS.configure NS.restart_acquisition NS.reset NS.axis NS.moved NS.moves NS.count_motion NS.qualifies NS.alerts NS.detects NS.decide NS.observation NS.cycle NS.shorten NS.lapsed NS.ended NS.millisecond IB.data_moves IB.edge IB.is_condition IB.is_start IB.is_rise IB.is_fall IB.data_at IE.conditioned IE.acknowledging IE.within_byte IE.pointer_after IE.bit_taken IE.byte_step IE.at_ninth IE.followed IE.acknowledge_step IE.answered IE.answer IE.answer_step IE.ninth_step IE.addressed IE.received IE.completes IE.completed IE.step IE.uses_as IE.uses_at_rise IE.reads_next IE.goes_on IE.uses_at_fall IE.consumes_conversion Ra.unwritable Ra.working Ra.stored Ra.image_blocks Ra.sleep_blocks Ra.locked Ra.ignores Ra.begins Ra.unreadable Ra.withheld RC.held RC.signed_ten RC.range_g RC.code RC.temperature DD.is_set DD.is_at DD.is_by DD.sooner DD.unless_at DD.later DD.first DD.earliest CW.written_control CW.written_register CW.kind_of_write CW.self_test CW.sleep CA.holds CA.pauses_again CA.may_pause CL.acquisition_cycles SF.differs SF.select SF.reads SF.first_bit SF.addressed SF.completed SF.take_bit SF.moves SF.fetches SF.shifts SF.bit_drive SF.level SF.next_bit SF.moved SF.consumes_at_rise SF.consumes_at_fall RR.is_acceleration RR.is_shadowed RR.pair RR.high_byte RR.prepared RR.began RR.taken SP.converted SP.all_new SP.ready SP.interval SP.observing SP.observed SP.scanned SP.test_counted SP.axis_phase SP.sample_phase SP.ticks_now SP.ticked SP.sample BR.away BR.cold_of BR.runs BR.tests Bi.cell_byte Bi.with_cell Bi.image_at Bi.shadowing BC.pause_end BC.shows_new_data BC.interrupt BC.pause_restarted BC.interrupt_held BC.pause_if_idle BC.automatic_control BC.reset_time BG.shown BG.peek BG.mark BG.mark_of BG.fetched BG.counts_as_read BG.byte_read BW.recounted BW.interrupts_written BW.tested BW.slept BW.image_written BW.mode_written BW.register_effect BW.write_effect BS.samples_run BS.next_sample BS.write_end BS.sample_due BS.next_deadline BS.limit BS.caught_up BS.samples_on_demand BS.sync_local_until BL.selected_to BL.may_select BE.moved BE.first_bit_taken BE.write_done BE.spi_listens BE.rising_effect BE.rise_synced BE.fall_synced BE.falling_effect BP.i2c_listens BP.ones_for BP.acted BP.i2c_pins BP.pins_synced BO.spi_drives BO.output BO.i2c_holds BO.data_output BU.cut BU.turned ST.held ST.turned BU.zero_while_off BU.reacquired BU.returned BU.supply_low BU.supply_ok BU.set_supply BD.pause_ended BD.write_ended BD.image_ended BD.wake_ended BD.sample_ended BD.verifies TF.timed_facts TF.facts T.refusal_number T.number T.wrong_length T.beyond T.any_beyond T.out_of_range T.jumps T.late T.too_late T.goes_back T.due_by T.before_due T.due_at T.beside_due T.first_found T.refusal T.reserved T.turned_down T.start_refusal T.unless_refused C.after_start C.reported C.put_in C.effect C.timed_adds C.leaves C.adds BV.drive_letter BV.report_values BV.view_value BV.mark_letter RD.spi_write RD.action_write RD.i2c_write RD.timed_does RD.does RL.after RL.answers RL.accepted RL.zeroed RL.met_zero RL.last_kept RB.operation RB.completing RB.cutting RB.supplied RB.runs RB.accepted_write RB.of_write RB.began RB.changed_at RB.entered RB.booked BB.timed_event BB.event BB.events BB.is_reset BB.resets BB.timed_ends BB.ends BB.ended IT.and_edge IT.clocked BX.timed_edge BX.edge_of BX.and_some BX.edges BX.write_resets BX.timed_leaves BX.leaves_frame BX.left_frame SL.levels
+computed = record {
+  of_extremes = record { start_accepted = refl; supply_accepted = refl; from_zero = refl; cells = refl };
+  accepts_extremes = refl;
+  of_i2c = record { start_accepted = refl; supply_accepted = refl; from_zero = refl; cells = refl };
+  of_brown_out = record { start_accepted = refl; supply_accepted = refl; from_zero = refl; cells = refl };
+  of_twice = record { start_accepted = refl; supply_accepted = refl; from_zero = refl; cells = refl };
+  of_two = record { start_accepted = refl; supply_accepted = refl; from_zero = refl; cells = refl };
+  of_other = record { start_accepted = refl; supply_accepted = refl; from_zero = refl; cells = refl };
+  of_storing = record { start_accepted = refl; supply_accepted = refl; from_zero = refl; cells = refl };
+  of_stored = record { start_accepted = refl; supply_accepted = refl; from_zero = refl; cells = refl };
+  reserved_kept = refl;
+  same_kept = refl;
+  of_reported_on = record { start_accepted = refl; supply_accepted = refl; from_zero = refl; cells = refl };
+  of_reported_off = record { start_accepted = refl; supply_accepted = refl; from_zero = refl; cells = refl };
+  of_unreported = record { start_accepted = refl; supply_accepted = refl; from_zero = refl; cells = refl };
+  same_lines = refl;
+  same_input = refl;
+  jumps_then = refl;
+  follows_then = refl;
+  i2c_so_far = record {
+    start_accepted = refl;
+    fractions = i2c_fractions;
+    heard = record { on = refl; ready = refl; unselected = refl; at_rest = refl; loud = refl };
+    still_heard = refl;
+    register_byte = lit< tt;
+    value_byte = lit< tt;
+    address_acknowledged = false;
+    register_acknowledged = false;
+    brings = refl;
+    now = time 0;
+    before = lines false true;
+    next = lines true true;
+    fraction = lit< tt;
+    last_bit = refl;
+    last_accepted = refl;
+  };
+  i2c_begins = refl;
+  spi_so_far = record {
+    start_accepted = refl;
+    fractions = spi_fractions;
+    chosen = record { on = refl; ready = refl; loud = refl; selected = refl };
+    still_chosen = refl;
+    frame_begins = refl;
+    address_byte = lit< tt;
+    value_byte = lit< tt;
+    brings = refl;
+    now = time 0;
+    fraction = lit< tt;
+    last_accepted = refl;
+  };
+  spi_begins = refl;
 }
-
-i2c_begins : (booked (opened stock_start) ((i2c_before ++ i2c_within) ++ (last_report ∷ []))).running ≡ begun
-unfolding LB.all_shifted_in LI.iterate NC.mixed NC.low_half NC.threshold NC.crossing NC.bits_where NC.byte FF.pushed FF.full FF.answered FM.tabulate FM.ring FM.sumZ FM.mean NR.sets NR.clears NR.raised NR.active NR.observe NR.fires NR.counted NP.motion_output NP.threshold_output NP.output NP.enables_motion NP.verifying_motion NP.candidate NP.verifying NS.configure NS.restart_acquisition NS.reset NS.axis NS.moved NS.moves NS.count_motion NS.qualifies NS.alerts NS.detects NS.decide NS.observation NS.cycle NS.shorten NS.lapsed NS.ended NS.millisecond IB.data_moves IB.edge IB.is_condition IB.is_start IB.is_rise IB.is_fall IB.data_at IE.conditioned IE.acknowledging IE.within_byte IE.pointer_after IE.bit_taken IE.byte_step IE.at_ninth IE.followed IE.acknowledge_step IE.answered IE.answer IE.answer_step IE.ninth_step IE.addressed IE.received IE.completes IE.completed IE.step IE.uses_as IE.uses_at_rise IE.reads_next IE.goes_on IE.uses_at_fall IE.consumes_conversion Ra.unwritable Ra.working Ra.stored Ra.image_blocks Ra.sleep_blocks Ra.locked Ra.ignores Ra.begins Ra.unreadable Ra.withheld RC.held RC.signed_ten RC.range_g RC.code RC.temperature DD.is_set DD.is_at DD.is_by DD.sooner DD.unless_at DD.later DD.first DD.earliest CW.written_control CW.written_register CW.kind_of_write CW.self_test CW.sleep CA.holds CA.pauses_again CA.may_pause CL.acquisition_cycles SF.differs SF.select SF.reads SF.first_bit SF.addressed SF.completed SF.take_bit SF.moves SF.fetches SF.shifts SF.bit_drive SF.level SF.next_bit SF.moved SF.consumes_at_rise SF.consumes_at_fall RR.is_acceleration RR.is_shadowed RR.pair RR.high_byte RR.prepared RR.read_began SP.converted SP.all_new SP.ready SP.interval SP.observing SP.observed SP.scanned SP.test_counted SP.axis_phase SP.sample_phase SP.ticks_now SP.ticked SP.sample BR.away BR.cold_of BR.runs BR.tests Bi.cell_byte Bi.with_cell Bi.image_at Bi.shadowing BC.pause_end BC.shows_new_data BC.interrupt BC.pause_restarted BC.interrupt_held BC.pause_if_idle BC.automatic_control BC.reset_time BG.shown BG.peek BG.mark BG.mark_of BG.fetched BG.counts_as_read BG.byte_read BW.recounted BW.interrupts_written BW.tested BW.slept BW.image_written BW.mode_written BW.register_effect BW.write_effect BS.samples_run BS.next_sample BS.write_end BS.sample_due BS.next_deadline BS.limit BS.caught_up BS.samples_on_demand BS.sync_local_until BL.selected_to BL.may_select BE.moved BE.first_bit_taken BE.write_done BE.spi_listens BE.rising_effect BE.rise_synced BE.fall_synced BE.falling_effect BP.i2c_listens BP.ones_for BP.acted BP.i2c_pins BP.pins_synced BO.spi_drives BO.output BO.i2c_holds BO.data_output BU.cut BU.turned ST.held ST.turned BU.zero_while_off BU.reacquired BU.returned BU.supply_low BU.supply_ok BU.set_supply BD.pause_ended BD.write_ended BD.image_ended BD.wake_ended BD.sample_ended BD.verifies TF.timed_facts TF.facts T.refusal_number T.number T.wrong_length T.beyond T.any_beyond T.out_of_range T.jumps T.late T.too_late T.goes_back T.due_by T.before_due T.due_at T.beside_due T.first_found T.refusal T.reserved T.turned_down T.start_refusal T.unless_refused C.after_start C.reported C.put_in C.effect C.timed_adds C.leaves C.adds BV.drive_letter BV.report_values BV.view_value BV.mark_letter RD.spi_write RD.action_write RD.i2c_write RD.timed_does RD.does RL.after RL.answers RL.accepted RL.zeroed RL.met_zero RL.last_kept RB.operation RB.completing RB.cutting RB.supplied RB.runs RB.accepted_write RB.of_write RB.began RB.changed_at RB.entered RB.booked
-i2c_begins = refl
-
-spi_so_far : SpiSoFar stock_start spi_before spi_within 0x2c 0xff
-unfolding LB.all_shifted_in LI.iterate NC.mixed NC.low_half NC.threshold NC.crossing NC.bits_where NC.byte FF.pushed FF.full FF.answered FM.tabulate FM.ring FM.sumZ FM.mean NR.sets NR.clears NR.raised NR.active NR.observe NR.fires NR.counted NP.motion_output NP.threshold_output NP.output NP.enables_motion NP.verifying_motion NP.candidate NP.verifying NS.configure NS.restart_acquisition NS.reset NS.axis NS.moved NS.moves NS.count_motion NS.qualifies NS.alerts NS.detects NS.decide NS.observation NS.cycle NS.shorten NS.lapsed NS.ended NS.millisecond IB.data_moves IB.edge IB.is_condition IB.is_start IB.is_rise IB.is_fall IB.data_at IE.conditioned IE.acknowledging IE.within_byte IE.pointer_after IE.bit_taken IE.byte_step IE.at_ninth IE.followed IE.acknowledge_step IE.answered IE.answer IE.answer_step IE.ninth_step IE.addressed IE.received IE.completes IE.completed IE.step IE.uses_as IE.uses_at_rise IE.reads_next IE.goes_on IE.uses_at_fall IE.consumes_conversion Ra.unwritable Ra.working Ra.stored Ra.image_blocks Ra.sleep_blocks Ra.locked Ra.ignores Ra.begins Ra.unreadable Ra.withheld RC.held RC.signed_ten RC.range_g RC.code RC.temperature DD.is_set DD.is_at DD.is_by DD.sooner DD.unless_at DD.later DD.first DD.earliest CW.written_control CW.written_register CW.kind_of_write CW.self_test CW.sleep CA.holds CA.pauses_again CA.may_pause CL.acquisition_cycles SF.differs SF.select SF.reads SF.first_bit SF.addressed SF.completed SF.take_bit SF.moves SF.fetches SF.shifts SF.bit_drive SF.level SF.next_bit SF.moved SF.consumes_at_rise SF.consumes_at_fall RR.is_acceleration RR.is_shadowed RR.pair RR.high_byte RR.prepared RR.read_began SP.converted SP.all_new SP.ready SP.interval SP.observing SP.observed SP.scanned SP.test_counted SP.axis_phase SP.sample_phase SP.ticks_now SP.ticked SP.sample BR.away BR.cold_of BR.runs BR.tests Bi.cell_byte Bi.with_cell Bi.image_at Bi.shadowing BC.pause_end BC.shows_new_data BC.interrupt BC.pause_restarted BC.interrupt_held BC.pause_if_idle BC.automatic_control BC.reset_time BG.shown BG.peek BG.mark BG.mark_of BG.fetched BG.counts_as_read BG.byte_read BW.recounted BW.interrupts_written BW.tested BW.slept BW.image_written BW.mode_written BW.register_effect BW.write_effect BS.samples_run BS.next_sample BS.write_end BS.sample_due BS.next_deadline BS.limit BS.caught_up BS.samples_on_demand BS.sync_local_until BL.selected_to BL.may_select BE.moved BE.first_bit_taken BE.write_done BE.spi_listens BE.rising_effect BE.rise_synced BE.fall_synced BE.falling_effect BP.i2c_listens BP.ones_for BP.acted BP.i2c_pins BP.pins_synced BO.spi_drives BO.output BO.i2c_holds BO.data_output BU.cut BU.turned ST.held ST.turned BU.zero_while_off BU.reacquired BU.returned BU.supply_low BU.supply_ok BU.set_supply BD.pause_ended BD.write_ended BD.image_ended BD.wake_ended BD.sample_ended BD.verifies TF.timed_facts TF.facts T.refusal_number T.number T.wrong_length T.beyond T.any_beyond T.out_of_range T.jumps T.late T.too_late T.goes_back T.due_by T.before_due T.due_at T.beside_due T.first_found T.refusal T.reserved T.turned_down T.start_refusal T.unless_refused C.after_start C.reported C.put_in C.effect C.timed_adds C.leaves C.adds BV.drive_letter BV.report_values BV.view_value BV.mark_letter RD.spi_write RD.action_write RD.i2c_write RD.timed_does RD.does RL.after RL.answers RL.accepted RL.zeroed RL.met_zero RL.last_kept RB.operation RB.completing RB.cutting RB.supplied RB.runs RB.accepted_write RB.of_write RB.began RB.changed_at RB.entered RB.booked BX.timed_edge BX.edge_of BX.and_some BX.edges BX.write_resets BX.timed_leaves BX.leaves_frame BX.left_frame SL.levels
-spi_so_far = record {
-  start_accepted = refl;
-  fractions = spi_fractions;
-  chosen = record { on = refl; ready = refl; loud = refl; selected = refl };
-  still_chosen = refl;
-  frame_begins = refl;
-  address_byte = lit< tt;
-  value_byte = lit< tt;
-  brings = refl;
-  now = time 0;
-  fraction = lit< tt;
-  last_accepted = refl;
-}
-
-spi_begins : (booked (opened stock_start) ((spi_before ++ spi_within) ++ (last_rise ∷ []))).running ≡ begun
-unfolding LB.all_shifted_in LI.iterate NC.mixed NC.low_half NC.threshold NC.crossing NC.bits_where NC.byte FF.pushed FF.full FF.answered FM.tabulate FM.ring FM.sumZ FM.mean NR.sets NR.clears NR.raised NR.active NR.observe NR.fires NR.counted NP.motion_output NP.threshold_output NP.output NP.enables_motion NP.verifying_motion NP.candidate NP.verifying NS.configure NS.restart_acquisition NS.reset NS.axis NS.moved NS.moves NS.count_motion NS.qualifies NS.alerts NS.detects NS.decide NS.observation NS.cycle NS.shorten NS.lapsed NS.ended NS.millisecond IB.data_moves IB.edge IB.is_condition IB.is_start IB.is_rise IB.is_fall IB.data_at IE.conditioned IE.acknowledging IE.within_byte IE.pointer_after IE.bit_taken IE.byte_step IE.at_ninth IE.followed IE.acknowledge_step IE.answered IE.answer IE.answer_step IE.ninth_step IE.addressed IE.received IE.completes IE.completed IE.step IE.uses_as IE.uses_at_rise IE.reads_next IE.goes_on IE.uses_at_fall IE.consumes_conversion Ra.unwritable Ra.working Ra.stored Ra.image_blocks Ra.sleep_blocks Ra.locked Ra.ignores Ra.begins Ra.unreadable Ra.withheld RC.held RC.signed_ten RC.range_g RC.code RC.temperature DD.is_set DD.is_at DD.is_by DD.sooner DD.unless_at DD.later DD.first DD.earliest CW.written_control CW.written_register CW.kind_of_write CW.self_test CW.sleep CA.holds CA.pauses_again CA.may_pause CL.acquisition_cycles SF.differs SF.select SF.reads SF.first_bit SF.addressed SF.completed SF.take_bit SF.moves SF.fetches SF.shifts SF.bit_drive SF.level SF.next_bit SF.moved SF.consumes_at_rise SF.consumes_at_fall RR.is_acceleration RR.is_shadowed RR.pair RR.high_byte RR.prepared RR.read_began SP.converted SP.all_new SP.ready SP.interval SP.observing SP.observed SP.scanned SP.test_counted SP.axis_phase SP.sample_phase SP.ticks_now SP.ticked SP.sample BR.away BR.cold_of BR.runs BR.tests Bi.cell_byte Bi.with_cell Bi.image_at Bi.shadowing BC.pause_end BC.shows_new_data BC.interrupt BC.pause_restarted BC.interrupt_held BC.pause_if_idle BC.automatic_control BC.reset_time BG.shown BG.peek BG.mark BG.mark_of BG.fetched BG.counts_as_read BG.byte_read BW.recounted BW.interrupts_written BW.tested BW.slept BW.image_written BW.mode_written BW.register_effect BW.write_effect BS.samples_run BS.next_sample BS.write_end BS.sample_due BS.next_deadline BS.limit BS.caught_up BS.samples_on_demand BS.sync_local_until BL.selected_to BL.may_select BE.moved BE.first_bit_taken BE.write_done BE.spi_listens BE.rising_effect BE.rise_synced BE.fall_synced BE.falling_effect BP.i2c_listens BP.ones_for BP.acted BP.i2c_pins BP.pins_synced BO.spi_drives BO.output BO.i2c_holds BO.data_output BU.cut BU.turned ST.held ST.turned BU.zero_while_off BU.reacquired BU.returned BU.supply_low BU.supply_ok BU.set_supply BD.pause_ended BD.write_ended BD.image_ended BD.wake_ended BD.sample_ended BD.verifies TF.timed_facts TF.facts T.refusal_number T.number T.wrong_length T.beyond T.any_beyond T.out_of_range T.jumps T.late T.too_late T.goes_back T.due_by T.before_due T.due_at T.beside_due T.first_found T.refusal T.reserved T.turned_down T.start_refusal T.unless_refused C.after_start C.reported C.put_in C.effect C.timed_adds C.leaves C.adds BV.drive_letter BV.report_values BV.view_value BV.mark_letter RD.spi_write RD.action_write RD.i2c_write RD.timed_does RD.does RL.after RL.answers RL.accepted RL.zeroed RL.met_zero RL.last_kept RB.operation RB.completing RB.cutting RB.supplied RB.runs RB.accepted_write RB.of_write RB.began RB.changed_at RB.entered RB.booked
-spi_begins = refl
 
 -- ---- the code has such runs
 
@@ -368,7 +332,7 @@ extremes_good =
     record { good = (tt, (tt, (tt, (lit< tt, (tt, (lit< tt, (tt, (tt, (tt, (tt, (tt, (tt, (tt, (tt, (tt, (tt, (tt, (tt, (tt, (lit< tt, (tt, (lit< tt, tt)))))))))))))))))))))) }
 
 pub extremes_return : Returned stock_start extremes limit stock
-extremes_return = comes_back stock_start extremes limit 65535 stock extremes_good refl of_extremes
+extremes_return = comes_back stock_start extremes limit 65535 stock extremes_good refl computed.of_extremes
 
 i2c_good : Good over_i2c
 i2c_good =
@@ -380,12 +344,12 @@ i2c_good =
     (byte_good (time 0) small 0x10 (byte_good (time 0) small 0x2c (byte_good (time 0) small 0xff (byte_good (time 0) small 0x0a (byte_good (time 0) small 0x11 o)))))))
 
 pub i2c_returns : Returned stock_start over_i2c completion (image_with 255 150)
-i2c_returns = comes_back stock_start over_i2c completion 3000 (image_with 255 150) i2c_good refl of_i2c
+i2c_returns = comes_back stock_start over_i2c completion 3000 (image_with 255 150) i2c_good refl computed.of_i2c
 
 pub brown_out_returns : Returned stock_start browned_out quarter (image_with 4 150)
 brown_out_returns =
     let o : Good (supply quarter 1 ∷ supply quarter 0 ∷ []) = record { good = (tt, (tt, tt)) } in
-    comes_back stock_start browned_out quarter 3000 (image_with 4 150) (writing_good o) refl of_brown_out
+    comes_back stock_start browned_out quarter 3000 (image_with 4 150) (writing_good o) refl computed.of_brown_out
 
 pub twice_returns : Returned stock_start twice second_end (image_with 0x55 150)
 twice_returns =
@@ -393,7 +357,7 @@ twice_returns =
     let o : Good (due second_end ∷ supply second_end 0 ∷ []) = record { good = (tt, (tt, tt)) } in
     let f = frame_good completion small 0x0a 0x10 (frame_good completion small 0x2c 0x55 (frame_good completion small 0x0a 0x11 o)) in
     let g : Good again = record { good = (tt, f.good) } in
-    comes_back stock_start twice second_end 3000 (image_with 0x55 150) (writing_good g) refl of_twice
+    comes_back stock_start twice second_end 3000 (image_with 0x55 150) (writing_good g) refl computed.of_twice
 
 two_good : Good two_writes
 two_good =
@@ -408,18 +372,18 @@ two_good =
     record { good = (tt, w.good) }
 
 pub two_return : Returned stock_start two_writes return (image_with 255 2)
-two_return = comes_back stock_start two_writes return 3000 (image_with 255 2) two_good refl of_two
+two_return = comes_back stock_start two_writes return 3000 (image_with 255 2) two_good refl computed.of_two
 
 pub other_returns : Returned other_start no_write return (image_with 255 2)
 other_returns =
     let g : Good no_write = record { good = (tt, tt) } in
-    comes_back other_start no_write return 2400 (image_with 255 2) g refl of_other
+    comes_back other_start no_write return 2400 (image_with 255 2) g refl computed.of_other
 
 -- two starts at two times, two lists, two voltages: every further list has the same answers
 pub same_answers : (further : List Call) {x y : Bma150} {f g : List Answer} → Run functions two_return.back.back further f x → Run functions other_returns.back.back further g y → f ≡ g
 same_answers further =
     demand_3.same two_return.ran other_returns.ran two_return.fits other_returns.fits two_return.back other_returns.back
-    (ap (λ (l : List Call). last_kept new_kept l) (accepted_are two_return.ran) ∙ same_kept ∙ sym (ap (λ (l : List Call). last_kept new_kept l) (accepted_are other_returns.ran))) further
+    (ap (λ (l : List Call). last_kept new_kept l) (accepted_are two_return.ran) ∙ computed.same_kept ∙ sym (ap (λ (l : List Call). last_kept new_kept l) (accepted_are other_returns.ran))) further
 
 -- a start by command 01 that stores both reserved codes, and a start by command 0c with the bytes that it leaves: the same answers
 storing_good : Good storing
@@ -429,15 +393,15 @@ storing_good =
     record { good = (tt, h.good) }
 
 pub storing_returns : Returned stock_start storing completion reserved_image
-storing_returns = comes_back stock_start storing completion 3000 reserved_image storing_good refl of_storing
+storing_returns = comes_back stock_start storing completion 3000 reserved_image storing_good refl computed.of_storing
 
 pub stored_returns : Returned stored_start only_zero completion reserved_image
-stored_returns = comes_back stored_start only_zero completion 2400 reserved_image (record { good = (tt, tt) }) refl of_stored
+stored_returns = comes_back stored_start only_zero completion 2400 reserved_image (record { good = (tt, tt) }) refl computed.of_stored
 
 pub same_by_either : (further : List Call) {x y : Bma150} {f g : List Answer} → Run functions storing_returns.back.back further f x → Run functions stored_returns.back.back further g y → f ≡ g
 same_by_either further =
     demand_3.same storing_returns.ran stored_returns.ran storing_returns.fits stored_returns.fits storing_returns.back stored_returns.back
-    (ap (λ (l : List Call). last_kept new_kept l) (accepted_are storing_returns.ran) ∙ reserved_kept ∙ sym (ap (λ (l : List Call). last_kept new_kept l) (accepted_are stored_returns.ran))) further
+    (ap (λ (l : List Call). last_kept new_kept l) (accepted_are storing_returns.ran) ∙ computed.reserved_kept ∙ sym (ap (λ (l : List Call). last_kept new_kept l) (accepted_are stored_returns.ran))) further
 
 -- ---- the levels of the last report
 
@@ -445,19 +409,19 @@ small : (time 0).1 < 2 ^ 64
 small = lit< tt
 
 pub reported_on_returns : Returned stock_start reported_on (time 0) stock
-reported_on_returns = comes_back stock_start reported_on (time 0) 3000 stock (record { good = (small, (tt, tt)) }) refl of_reported_on
+reported_on_returns = comes_back stock_start reported_on (time 0) 3000 stock (record { good = (small, (tt, tt)) }) refl computed.of_reported_on
 
 pub reported_off_returns : Returned stock_start reported_off (time 0) stock
-reported_off_returns = comes_back stock_start reported_off (time 0) 3000 stock (record { good = (tt, (small, tt)) }) refl of_reported_off
+reported_off_returns = comes_back stock_start reported_off (time 0) 3000 stock (record { good = (tt, (small, tt)) }) refl computed.of_reported_off
 
 pub unreported_returns : Returned stock_start unreported (time 0) stock
-unreported_returns = comes_back stock_start unreported (time 0) 3000 stock (record { good = (tt, tt) }) refl of_unreported
+unreported_returns = comes_back stock_start unreported (time 0) 3000 stock (record { good = (tt, tt) }) refl computed.of_unreported
 
 -- reported with or without supply, they come back alike
 pub same_reported : (further : List Call) {x y : Bma150} {f g : List Answer} → Run functions reported_on_returns.back.back further f x → Run functions reported_off_returns.back.back further g y → f ≡ g
 same_reported further =
     demand_3.same reported_on_returns.ran reported_off_returns.ran reported_on_returns.fits reported_off_returns.fits reported_on_returns.back reported_off_returns.back
-    (ap (λ (l : List Call). last_kept new_kept l) (accepted_are reported_on_returns.ran) ∙ same_lines ∙ sym (ap (λ (l : List Call). last_kept new_kept l) (accepted_are reported_off_returns.ran))) further
+    (ap (λ (l : List Call). last_kept new_kept l) (accepted_are reported_on_returns.ran) ∙ computed.same_lines ∙ sym (ap (λ (l : List Call). last_kept new_kept l) (accepted_are reported_off_returns.ran))) further
 
 -- `same` asks for equal levels because it must: these agree in the moment, the bytes, acceleration and temperature, and answer a START with 8 and with 0
 pub record LinesNeeded : Type 0 where
@@ -468,13 +432,13 @@ pub record LinesNeeded : Type 0 where
 
 pub lines_needed : LinesNeeded
 lines_needed = record {
-  same_input = same_input;
+  same_input = computed.same_input;
   same_bytes =
-      claim.stored stock_start reported_on (time 0) 3000 (comes stock_start reported_on (time 0) 3000 stock (small, (tt, tt)) refl of_reported_on)
-      ∙ ap Added.put (of_reported_on.cells ∙ sym of_unreported.cells)
-      ∙ sym (claim.stored stock_start unreported (time 0) 3000 (comes stock_start unreported (time 0) 3000 stock (tt, tt) refl of_unreported));
-  jumps = jumps_then;
-  follows = follows_then;
+      claim.stored stock_start reported_on (time 0) 3000 (comes stock_start reported_on (time 0) 3000 stock (small, (tt, tt)) refl computed.of_reported_on)
+      ∙ ap Added.put (computed.of_reported_on.cells ∙ sym computed.of_unreported.cells)
+      ∙ sym (claim.stored stock_start unreported (time 0) 3000 (comes stock_start unreported (time 0) 3000 stock (tt, tt) refl computed.of_unreported));
+  jumps = computed.jumps_then;
+  follows = computed.follows_then;
 }
 
 -- ---- both lent calls, in a run

@@ -7,6 +7,7 @@ use Rattle.filter.specs.Filter.{selected}
 use Rattle.interrupts.specs.State as I
 use Rattle.deadlines.specs.Deadlines.{with_irq_hold, with_image}
 use Rattle.control.specs.declared.types.WriteKind.{WriteKind}
+use Rattle.control.specs.declared.types.Effect.{Effect}
 use Rattle.control.specs.declared.types.SelfTest.{SelfTest}
 use Rattle.control.specs.declared.types.Sleep.{Sleep}
 use Rattle.control.specs.Kinds as Kinds
@@ -80,34 +81,27 @@ durations_written s address value = with_interrupts (put s address value) (I.con
 
 -- ---- any address
 
--- what a write does to the registers, before automatic mode
-unfoldable pub register_effect : WriteKind → Sensor → (address : Address) (value : Byte) (now : Time) → Sensor
-register_effect WriteKind.Ignored s address value now = s
-register_effect WriteKind.Stored s address value now = s
-register_effect WriteKind.Reset s address value now = soft_reset s now
-register_effect WriteKind.Control s address value now = control_written s value now
-register_effect WriteKind.Measurement s address value now = measurement_written s value
-register_effect WriteKind.Operation s address value now = operation_written s value
-register_effect WriteKind.Durations s address value now = durations_written s address value
-register_effect WriteKind.Plain s address value now = put s address value
+-- what a register that takes a write does, before automatic mode
+unfoldable pub register_effect : Effect → Sensor → (address : Address) (value : Byte) (now : Time) → Sensor
+register_effect Effect.Reset s address value now = soft_reset s now
+register_effect Effect.Control s address value now = control_written s value now
+register_effect Effect.Measurement s address value now = measurement_written s value
+register_effect Effect.Operation s address value now = operation_written s value
+register_effect Effect.Durations s address value now = durations_written s address value
+register_effect Effect.Plain s address value now = put s address value
 
 -- 01: a stored write begins
 abbrev pub begun : Sensor → (address : Address) (value : Byte) (now : Time) → Sensor
 begun s address value now = with_writing s (Some (stored_write now address value))
 
 -- a write to a register lets automatic mode follow
-abbrev pub then_automatic : WriteKind → Sensor → (address : Address) (value : Byte) (now : Time) → Sensor
-then_automatic w s address value now = automatic_control (register_effect w s address value now) now (criterion s) false
+abbrev pub then_automatic : Effect → Sensor → (address : Address) (value : Byte) (now : Time) → Sensor
+then_automatic e s address value now = automatic_control (register_effect e s address value now) now (criterion s) false
 
 unfoldable pub write_effect : WriteKind → Sensor → (address : Address) (value : Byte) (now : Time) → Sensor
 write_effect WriteKind.Ignored s address value now = s
 write_effect WriteKind.Stored s address value now = begun s address value now
-write_effect WriteKind.Reset s address value now = then_automatic WriteKind.Reset s address value now
-write_effect WriteKind.Control s address value now = then_automatic WriteKind.Control s address value now
-write_effect WriteKind.Measurement s address value now = then_automatic WriteKind.Measurement s address value now
-write_effect WriteKind.Operation s address value now = then_automatic WriteKind.Operation s address value now
-write_effect WriteKind.Durations s address value now = then_automatic WriteKind.Durations s address value now
-write_effect WriteKind.Plain s address value now = then_automatic WriteKind.Plain s address value now
+write_effect (WriteKind.Taken e) s address value now = then_automatic e s address value now
 
 -- which of these a write is (01, "Registers")
 abbrev pub write_kind : Sensor → (address : Address) (value : Byte) → WriteKind

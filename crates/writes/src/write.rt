@@ -5,7 +5,7 @@ ghost use Rattle.writes.specs.Write as W;
 use control::kinds::{
     copies_image, kept, kind_of_write, resets_interrupts, self_test, sleep, turns_automatic,
 };
-use control::types::{SelfTest, Sleep, WriteKind};
+use control::types::{Effect, SelfTest, Sleep, WriteKind};
 use nv::WriteCycle;
 use registers::fields::{CONTROL, MEASUREMENT, OPERATION, STATUS, bandwidth};
 use sensor::image::shadowing;
@@ -135,24 +135,23 @@ fn durations_written(sensor: Sensor, address: u8, value: u8) -> Sensor
     s
 }
 
-// What a write of a register does. Address and value stay two: the kind is worked out of both, and four of the six effects use the value
-// alone or neither. Two functions, with an arm that is never reached: as one match the proof of the soft reset did not close.
+// What a write of a register does before automatic mode. Address and value stay two: the effect is worked out of both, and four of the
+// six use the value alone or neither.
 #[tactic(auto, unfolding(crate::specs::Write::register_effect))]
-fn register_effect(sensor: Sensor, w: WriteKind, address: u8, value: u8, now: Time) -> Sensor
-    ensures { result ≡ W.register_effect w sensor address value now }
+fn register_effect(sensor: Sensor, e: Effect, address: u8, value: u8, now: Time) -> Sensor
+    ensures { result ≡ W.register_effect e sensor address value now }
 {
-    match w {
-        WriteKind::Ignored | WriteKind::Stored => sensor,
-        WriteKind::Reset => sensor.soft_reset(now),
-        WriteKind::Control => control_written(sensor, value, now),
-        WriteKind::Measurement => measurement_written(sensor, value),
-        WriteKind::Operation => operation_written(sensor, value),
-        WriteKind::Durations => durations_written(sensor, address, value),
-        WriteKind::Plain => sensor.put(address, value),
+    match e {
+        Effect::Reset => sensor.soft_reset(now),
+        Effect::Control => control_written(sensor, value, now),
+        Effect::Measurement => measurement_written(sensor, value),
+        Effect::Operation => operation_written(sensor, value),
+        Effect::Durations => durations_written(sensor, address, value),
+        Effect::Plain => sensor.put(address, value),
     }
 }
 
-// A stored write begins; any other is followed by automatic mode.
+// A stored write begins; any other that is taken is followed by automatic mode.
 #[tactic(auto, unfolding(crate::specs::Write::write_effect))]
 pub fn write_register(sensor: Sensor, address: u8, value: u8, now: Time) -> Sensor
     ensures { result ≡ W.write_register sensor address value now }
@@ -167,8 +166,8 @@ pub fn write_register(sensor: Sensor, address: u8, value: u8, now: Time) -> Sens
             }),
             ..sensor
         },
-        w => {
-            let s = register_effect(sensor, w, address, value, now);
+        WriteKind::Taken(e) => {
+            let s = register_effect(sensor, e, address, value, now);
             s.automatic_control(now, sensor.criterion(), false)
         }
     }

@@ -22,6 +22,7 @@ use Rattle.spi.specs.declared.types.Shift.TheVariants as H
 use Rattle.spi.specs.Frame as F
 use Rattle.spi.specs.Lines.{output}
 use Rattle.control.specs.declared.types.WriteKind.{WriteKind}
+use Rattle.control.specs.declared.types.Effect.{Effect}
 use Rattle.calls.specs.declared.types.Timed.{Timed}
 use Rattle.calls.specs.declared.types.Call.{Call}
 use Rattle.calls.specs.Table.{unless_refused}
@@ -101,15 +102,15 @@ module _ (s : Sensor) (address value : ℕ) (now : Time) where
   unfolding write_effect register_effect K.Ordinary
   written_alike WriteKind.Ignored = record { selected = refl; serial = refl }
   written_alike WriteKind.Stored = record { selected = refl; serial = refl }
-  written_alike WriteKind.Reset = kept_after (K.automatic_keeps (soft_reset s now) now (criterion s) false)
+  written_alike (WriteKind.Taken Effect.Reset) = kept_after (K.automatic_keeps (soft_reset s now) now (criterion s) false)
     where
       kept_after : {t : Sensor} → C.Keeps (soft_reset s now) t → Alike s.frame t.frame
       kept_after p = and_alike {g = (soft_reset s now).frame} (record { selected = refl; serial = refl }) (kept p)
-  written_alike WriteKind.Control = kept (K.then_automatic_keeps WriteKind.Control s address value now tt)
-  written_alike WriteKind.Measurement = kept (K.then_automatic_keeps WriteKind.Measurement s address value now tt)
-  written_alike WriteKind.Operation = kept (K.then_automatic_keeps WriteKind.Operation s address value now tt)
-  written_alike WriteKind.Durations = kept (K.then_automatic_keeps WriteKind.Durations s address value now tt)
-  written_alike WriteKind.Plain = kept (K.then_automatic_keeps WriteKind.Plain s address value now tt)
+  written_alike (WriteKind.Taken Effect.Control) = kept (K.then_automatic_keeps Effect.Control s address value now tt)
+  written_alike (WriteKind.Taken Effect.Measurement) = kept (K.then_automatic_keeps Effect.Measurement s address value now tt)
+  written_alike (WriteKind.Taken Effect.Operation) = kept (K.then_automatic_keeps Effect.Operation s address value now tt)
+  written_alike (WriteKind.Taken Effect.Durations) = kept (K.then_automatic_keeps Effect.Durations s address value now tt)
+  written_alike (WriteKind.Taken Effect.Plain) = kept (K.then_automatic_keeps Effect.Plain s address value now tt)
 
 -- ---- an SPI rise keeps the select pin
 

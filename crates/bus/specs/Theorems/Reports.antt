@@ -12,6 +12,7 @@ use Rattle.i2c.specs.Target.{target, act, deed}
 use Rattle.i2c.proofs.Theorems.Uses.{uses, uses_exactly}
 use Rattle.deadlines.specs.Deadlines.{is_set}
 use Rattle.control.specs.declared.types.WriteKind.{WriteKind}
+use Rattle.control.specs.declared.types.Effect.{Effect}
 use Rattle.sensor.specs.declared.types.Sensor.{Sensor}
 use Rattle.sensor.specs.Record.{with_i2c, is_quiet}
 use Rattle.sensor.specs.Mode.{soft_reset, criterion}
@@ -52,24 +53,24 @@ module _ (q : Sensor) (r v : ℕ) (now : Time) where
   unfolding write_effect register_effect K.Ordinary is_reset
   written_same WriteKind.Ignored h = itself q
   written_same WriteKind.Stored h = record { same = refl }
-  written_same WriteKind.Reset h = absurd_bool h
-  written_same WriteKind.Control h = of (K.then_automatic_keeps WriteKind.Control q r v now tt)
-  written_same WriteKind.Measurement h = of (K.then_automatic_keeps WriteKind.Measurement q r v now tt)
-  written_same WriteKind.Operation h = of (K.then_automatic_keeps WriteKind.Operation q r v now tt)
-  written_same WriteKind.Durations h = of (K.then_automatic_keeps WriteKind.Durations q r v now tt)
-  written_same WriteKind.Plain h = of (K.then_automatic_keeps WriteKind.Plain q r v now tt)
+  written_same (WriteKind.Taken Effect.Reset) h = absurd_bool h
+  written_same (WriteKind.Taken Effect.Control) h = of (K.then_automatic_keeps Effect.Control q r v now tt)
+  written_same (WriteKind.Taken Effect.Measurement) h = of (K.then_automatic_keeps Effect.Measurement q r v now tt)
+  written_same (WriteKind.Taken Effect.Operation) h = of (K.then_automatic_keeps Effect.Operation q r v now tt)
+  written_same (WriteKind.Taken Effect.Durations) h = of (K.then_automatic_keeps Effect.Durations q r v now tt)
+  written_same (WriteKind.Taken Effect.Plain) h = of (K.then_automatic_keeps Effect.Plain q r v now tt)
 
   -- a soft reset makes the sensor quiet
   pub reset_quiets : (w : WriteKind) → is_reset w ≡ true → is_quiet (write_effect w q r v now) ≡ true
   unfolding write_effect register_effect is_reset is_set
   reset_quiets WriteKind.Ignored h = absurd_bool (sym h)
   reset_quiets WriteKind.Stored h = absurd_bool (sym h)
-  reset_quiets WriteKind.Reset h = ap (λ (k : C.Core). is_set k.quiet) (K.automatic_keeps (soft_reset q now) now (criterion q) false).same
-  reset_quiets WriteKind.Control h = absurd_bool (sym h)
-  reset_quiets WriteKind.Measurement h = absurd_bool (sym h)
-  reset_quiets WriteKind.Operation h = absurd_bool (sym h)
-  reset_quiets WriteKind.Durations h = absurd_bool (sym h)
-  reset_quiets WriteKind.Plain h = absurd_bool (sym h)
+  reset_quiets (WriteKind.Taken Effect.Reset) h = ap (λ (k : C.Core). is_set k.quiet) (K.automatic_keeps (soft_reset q now) now (criterion q) false).same
+  reset_quiets (WriteKind.Taken Effect.Control) h = absurd_bool (sym h)
+  reset_quiets (WriteKind.Taken Effect.Measurement) h = absurd_bool (sym h)
+  reset_quiets (WriteKind.Taken Effect.Operation) h = absurd_bool (sym h)
+  reset_quiets (WriteKind.Taken Effect.Durations) h = absurd_bool (sym h)
+  reset_quiets (WriteKind.Taken Effect.Plain) h = absurd_bool (sym h)
 
 module _ (s : Sensor) (st : State) where
   -- the engine's state changes nothing that a fetch looks at

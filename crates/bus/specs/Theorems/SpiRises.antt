@@ -15,6 +15,7 @@ use Rattle.spi.specs.declared.types.Shift.TheVariants as H
 use Rattle.spi.specs.Frame as F
 use Rattle.spi.specs.Lines.{Rise, Now, output, bit_served, serve}
 use Rattle.control.specs.declared.types.WriteKind.{WriteKind}
+use Rattle.control.specs.declared.types.Effect.{Effect}
 use Rattle.sensor.specs.declared.types.Sensor.{Sensor}
 use Rattle.sensor.specs.Record.{with_frame, four_wire}
 use Rattle.writes.specs.Write.{write_kind, write_register}
@@ -118,12 +119,12 @@ ordinary : (w : WriteKind) → is_reset w ≡ false → K.Ordinary w
 unfolding is_reset K.Ordinary
 ordinary WriteKind.Ignored e = tt
 ordinary WriteKind.Stored e = tt
-ordinary WriteKind.Reset e = absurd_bool e
-ordinary WriteKind.Control e = tt
-ordinary WriteKind.Measurement e = tt
-ordinary WriteKind.Operation e = tt
-ordinary WriteKind.Durations e = tt
-ordinary WriteKind.Plain e = tt
+ordinary (WriteKind.Taken Effect.Reset) e = absurd_bool e
+ordinary (WriteKind.Taken Effect.Control) e = tt
+ordinary (WriteKind.Taken Effect.Measurement) e = tt
+ordinary (WriteKind.Taken Effect.Operation) e = tt
+ordinary (WriteKind.Taken Effect.Durations) e = tt
+ordinary (WriteKind.Taken Effect.Plain) e = tt
 
 module _ (q : Sensor) (now : Time) where
   done_faded : {P : Type 0} (w : Option (ℕ × ℕ)) → write_resets q w ≡ false → (P → (E.write_done w q now).sampling.asleep ≡ false) → Faded P q.frame (E.write_done w q now).frame

@@ -21,6 +21,7 @@ use Rattle.i2c.proofs.Theorems.Frames.{and_serves, at, bits_received, write_addr
 use Rattle.i2c.proofs.Theorems.Uses.{uses}
 use Rattle.registers.specs.Access.{begins}
 use Rattle.control.specs.declared.types.WriteKind.{WriteKind}
+use Rattle.control.specs.declared.types.Effect.{Effect}
 use Rattle.control.specs.Theorems.Begins.{is_stored, stored_begins}
 use Rattle.calls.specs.declared.types.Timed.TheVariants as Timed
 use Rattle.calls.specs.declared.types.Call.{Call}
@@ -59,12 +60,12 @@ module _ (s : Sensor) (address value : ℕ) (now : Time) where
   unfolding write_effect register_effect is_stored K.Ordinary
   by_kind WriteKind.Ignored = refl
   by_kind WriteKind.Stored = refl
-  by_kind WriteKind.Reset = ap (λ (c : C.Core). c.writing) (K.automatic_keeps (soft_reset s now) now (criterion s) false).same
-  by_kind WriteKind.Control = kept _ (K.then_automatic_keeps WriteKind.Control s address value now tt)
-  by_kind WriteKind.Measurement = kept _ (K.then_automatic_keeps WriteKind.Measurement s address value now tt)
-  by_kind WriteKind.Operation = kept _ (K.then_automatic_keeps WriteKind.Operation s address value now tt)
-  by_kind WriteKind.Durations = kept _ (K.then_automatic_keeps WriteKind.Durations s address value now tt)
-  by_kind WriteKind.Plain = kept _ (K.then_automatic_keeps WriteKind.Plain s address value now tt)
+  by_kind (WriteKind.Taken Effect.Reset) = ap (λ (c : C.Core). c.writing) (K.automatic_keeps (soft_reset s now) now (criterion s) false).same
+  by_kind (WriteKind.Taken Effect.Control) = kept _ (K.then_automatic_keeps Effect.Control s address value now tt)
+  by_kind (WriteKind.Taken Effect.Measurement) = kept _ (K.then_automatic_keeps Effect.Measurement s address value now tt)
+  by_kind (WriteKind.Taken Effect.Operation) = kept _ (K.then_automatic_keeps Effect.Operation s address value now tt)
+  by_kind (WriteKind.Taken Effect.Durations) = kept _ (K.then_automatic_keeps Effect.Durations s address value now tt)
+  by_kind (WriteKind.Taken Effect.Plain) = kept _ (K.then_automatic_keeps Effect.Plain s address value now tt)
 
   -- a stored write begins exactly where 01's rule holds; else what ran runs on
   pub write_begins : (write_register s address value now).writing ≡ (if begins address value (gate s) (is_writing s) then running address value now else s.writing)

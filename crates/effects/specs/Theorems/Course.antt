@@ -12,6 +12,7 @@ use Rattle.time.specs.declared.Time.{Time}
 use Rattle.analog.specs.Axis.{Acceleration}
 use Rattle.filter.proofs.Answers.{mean_where_full, code_where_not}
 use Rattle.control.specs.declared.types.WriteKind.{WriteKind}
+use Rattle.control.specs.declared.types.Effect.{Effect}
 use Rattle.control.specs.Lengths.{needs}
 use Rattle.filter.specs.Filter.{selected, full, answered}
 use Rattle.reads.specs.Reads.{axis_of, without_new_data}
@@ -257,8 +258,8 @@ module _ (now : Time) where
     operates = λ s value. puts_at operation value (omega arith) refl refl refl refl;
     measures = measures;
     soft_resets = λ s. fresh refl refl refl (Course.reset Course.here now);
-    lasts = λ s address value k. puts_at address value (above s address value WriteKind.Durations k (λ e. let z : ◌≡◌ {A = ℕ} 0 1 = cc in omega arith)) refl refl refl refl;
-    puts = λ s address value k. puts_at address value (above s address value WriteKind.Plain k (λ e. let z : ◌≡◌ {A = ℕ} 0 1 = cc in omega arith)) refl refl refl refl;
+    lasts = λ s address value k. puts_at address value (above s address value (WriteKind.Taken Effect.Durations) k (λ e. let z : ◌≡◌ {A = ℕ} 0 1 = cc in omega arith)) refl refl refl refl;
+    puts = λ s address value k. puts_at address value (above s address value (WriteKind.Taken Effect.Plain) k (λ e. let z : ◌≡◌ {A = ℕ} 0 1 = cc in omega arith)) refl refl refl refl;
     begins = λ s address value k. stays refl refl refl refl;
     fetches = λ s address b. stays refl refl refl refl;
     drops_read = λ s. stays refl refl refl refl;

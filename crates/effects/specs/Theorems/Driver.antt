@@ -19,6 +19,7 @@ use Rattle.registers.specs.Codes.{code_low, code_high, temperature}
 use Rattle.filter.specs.Filter.{answered}
 use Rattle.deadlines.specs.Deadlines.{is_set, is_at}
 use Rattle.control.specs.declared.types.WriteKind.{WriteKind}
+use Rattle.control.specs.declared.types.Effect.{Effect}
 use Rattle.control.specs.declared.types.SelfTest.{SelfTest}
 use Rattle.control.specs.declared.types.Sleep.{Sleep}
 use Rattle.control.specs.Automatic.{holds, pauses_again}
@@ -311,57 +312,43 @@ mode_driver s false = refl
 
 -- what a write does to the registers
 module _ (s : Sensor) (address value : ℕ) (now : Time) where
-  effect_fades : (w : WriteKind) → Fades s (register_effect w s address value now)
+  effect_fades : (e : Effect) → Fades s (register_effect e s address value now)
   unfolding register_effect
-  effect_fades WriteKind.Ignored = unfaded refl
-  effect_fades WriteKind.Stored = unfaded refl
-  effect_fades WriteKind.Reset = faded refl
-  effect_fades WriteKind.Control = control_fades s value now
-  effect_fades WriteKind.Measurement = unfaded refl
-  effect_fades WriteKind.Operation = unfaded (mode_driver _ _)
-  effect_fades WriteKind.Durations = unfaded refl
-  effect_fades WriteKind.Plain = unfaded refl
+  effect_fades Effect.Reset = faded refl
+  effect_fades Effect.Control = control_fades s value now
+  effect_fades Effect.Measurement = unfaded refl
+  effect_fades Effect.Operation = unfaded (mode_driver _ _)
+  effect_fades Effect.Durations = unfaded refl
+  effect_fades Effect.Plain = unfaded refl
 
-  effect_driver : (w : WriteKind) → Ordinary w → (register_effect w s address value now).sampling.asleep ≡ false → (register_effect w s address value now).frame.driven ≡ s.frame.driven
+  effect_driver : (e : Effect) → Ordinary (WriteKind.Taken e) → (register_effect e s address value now).sampling.asleep ≡ false → (register_effect e s address value now).frame.driven ≡ s.frame.driven
   unfolding register_effect Ordinary
-  effect_driver WriteKind.Ignored o a = refl
-  effect_driver WriteKind.Stored o a = refl
-  effect_driver WriteKind.Reset o a = absurd o
-  effect_driver WriteKind.Control o a = control_driver s value now a
-  effect_driver WriteKind.Measurement o a = refl
-  effect_driver WriteKind.Operation o a = mode_driver _ _
-  effect_driver WriteKind.Durations o a = refl
-  effect_driver WriteKind.Plain o a = refl
+  effect_driver Effect.Reset o a = absurd o
+  effect_driver Effect.Control o a = control_driver s value now a
+  effect_driver Effect.Measurement o a = refl
+  effect_driver Effect.Operation o a = mode_driver _ _
+  effect_driver Effect.Durations o a = refl
+  effect_driver Effect.Plain o a = refl
 
-  automatic_after : (w : WriteKind) → Fades s (then_automatic w s address value now)
-  automatic_after w = and_fades (effect_fades w) (automatic_fades _ now _ false)
+  automatic_after : (e : Effect) → Fades s (then_automatic e s address value now)
+  automatic_after e = and_fades (effect_fades e) (automatic_fades _ now _ false)
 
-  awake_after : (w : WriteKind) → Ordinary w → (then_automatic w s address value now).sampling.asleep ≡ false → (then_automatic w s address value now).frame.driven ≡ s.frame.driven
-  awake_after w o a = let y = (automatic_steady (register_effect w s address value now) now (criterion s) false).driver a in y.0 ∙ effect_driver w o y.1
+  awake_after : (e : Effect) → Ordinary (WriteKind.Taken e) → (then_automatic e s address value now).sampling.asleep ≡ false → (then_automatic e s address value now).frame.driven ≡ s.frame.driven
+  awake_after e o a = let y = (automatic_steady (register_effect e s address value now) now (criterion s) false).driver a in y.0 ∙ effect_driver e o y.1
 
   -- a write leaves the driver or releases it
   pub write_fades : (w : WriteKind) → Fades s (write_effect w s address value now)
   unfolding write_effect
   write_fades WriteKind.Ignored = unfaded refl
   write_fades WriteKind.Stored = unfaded refl
-  write_fades WriteKind.Reset = automatic_after WriteKind.Reset
-  write_fades WriteKind.Control = automatic_after WriteKind.Control
-  write_fades WriteKind.Measurement = automatic_after WriteKind.Measurement
-  write_fades WriteKind.Operation = automatic_after WriteKind.Operation
-  write_fades WriteKind.Durations = automatic_after WriteKind.Durations
-  write_fades WriteKind.Plain = automatic_after WriteKind.Plain
+  write_fades (WriteKind.Taken e) = automatic_after e
 
   -- one but a soft reset leaves it, if the sensor is awake then
   pub write_driver : (w : WriteKind) → Ordinary w → (write_effect w s address value now).sampling.asleep ≡ false → (write_effect w s address value now).frame.driven ≡ s.frame.driven
   unfolding write_effect
   write_driver WriteKind.Ignored o a = refl
   write_driver WriteKind.Stored o a = refl
-  write_driver WriteKind.Reset o a = awake_after WriteKind.Reset o a
-  write_driver WriteKind.Control o a = awake_after WriteKind.Control o a
-  write_driver WriteKind.Measurement o a = awake_after WriteKind.Measurement o a
-  write_driver WriteKind.Operation o a = awake_after WriteKind.Operation o a
-  write_driver WriteKind.Durations o a = awake_after WriteKind.Durations o a
-  write_driver WriteKind.Plain o a = awake_after WriteKind.Plain o a
+  write_driver (WriteKind.Taken e) o a = awake_after e o a
 
 -- ---- due calls
 

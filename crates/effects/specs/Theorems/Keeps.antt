@@ -4,6 +4,7 @@ use Rattle.std.proofs.Common.{◌∙◌}
 use Rattle.time.specs.declared.Time.{Time}
 use Rattle.i2c.specs.declared.types.Edge.{Edge}
 use Rattle.control.specs.declared.types.WriteKind.{WriteKind}
+use Rattle.control.specs.declared.types.Effect.{Effect}
 use Rattle.control.specs.declared.types.SelfTest.{SelfTest}
 use Rattle.control.specs.declared.types.Sleep.{Sleep}
 use Rattle.sensor.specs.declared.types.Sensor.{Sensor}
@@ -101,26 +102,24 @@ operation_keeps s value = then (record { same = refl }) (mode_keeps _ _)
 unfoldable pub Ordinary : WriteKind → Type 0
 Ordinary WriteKind.Ignored = Unit {0}
 Ordinary WriteKind.Stored = Unit {0}
-Ordinary WriteKind.Reset = ⊥
-Ordinary WriteKind.Control = Unit {0}
-Ordinary WriteKind.Measurement = Unit {0}
-Ordinary WriteKind.Operation = Unit {0}
-Ordinary WriteKind.Durations = Unit {0}
-Ordinary WriteKind.Plain = Unit {0}
+Ordinary (WriteKind.Taken Effect.Reset) = ⊥
+Ordinary (WriteKind.Taken Effect.Control) = Unit {0}
+Ordinary (WriteKind.Taken Effect.Measurement) = Unit {0}
+Ordinary (WriteKind.Taken Effect.Operation) = Unit {0}
+Ordinary (WriteKind.Taken Effect.Durations) = Unit {0}
+Ordinary (WriteKind.Taken Effect.Plain) = Unit {0}
 
-register_effect_keeps : (w : WriteKind) (s : Sensor) (address value : ℕ) (now : Time) → Ordinary w → Keeps s (register_effect w s address value now)
+register_effect_keeps : (e : Effect) (s : Sensor) (address value : ℕ) (now : Time) → Ordinary (WriteKind.Taken e) → Keeps s (register_effect e s address value now)
 unfolding register_effect Ordinary
-register_effect_keeps WriteKind.Ignored s address value now h = itself s
-register_effect_keeps WriteKind.Stored s address value now h = itself s
-register_effect_keeps WriteKind.Reset s address value now h = absurd h
-register_effect_keeps WriteKind.Control s address value now h = control_keeps s value now
-register_effect_keeps WriteKind.Measurement s address value now h = record { same = refl }
-register_effect_keeps WriteKind.Operation s address value now h = operation_keeps s value
-register_effect_keeps WriteKind.Durations s address value now h = record { same = refl }
-register_effect_keeps WriteKind.Plain s address value now h = record { same = refl }
+register_effect_keeps Effect.Reset s address value now h = absurd h
+register_effect_keeps Effect.Control s address value now h = control_keeps s value now
+register_effect_keeps Effect.Measurement s address value now h = record { same = refl }
+register_effect_keeps Effect.Operation s address value now h = operation_keeps s value
+register_effect_keeps Effect.Durations s address value now h = record { same = refl }
+register_effect_keeps Effect.Plain s address value now h = record { same = refl }
 
-pub then_automatic_keeps : (w : WriteKind) (s : Sensor) (address value : ℕ) (now : Time) → Ordinary w → Keeps s (then_automatic w s address value now)
-then_automatic_keeps w s address value now h = then (register_effect_keeps w s address value now h) (automatic_keeps _ now _ false)
+pub then_automatic_keeps : (e : Effect) (s : Sensor) (address value : ℕ) (now : Time) → Ordinary (WriteKind.Taken e) → Keeps s (then_automatic e s address value now)
+then_automatic_keeps e s address value now h = then (register_effect_keeps e s address value now h) (automatic_keeps _ now _ false)
 
 -- ---- samples
 

@@ -16,6 +16,7 @@ use Rattle.spi.specs.declared.types.Shift.{Shift}
 use Rattle.spi.specs.Frame as F
 use Rattle.deadlines.specs.Deadlines.{is_set, is_at}
 use Rattle.control.specs.declared.types.WriteKind.{WriteKind}
+use Rattle.control.specs.declared.types.Effect.{Effect}
 use Rattle.control.specs.declared.types.SelfTest.{SelfTest}
 use Rattle.control.specs.declared.types.Sleep.{Sleep}
 use Rattle.control.specs.Automatic.{holds, pauses_again}
@@ -104,19 +105,19 @@ module _ (now : Time) (R : Sensor → Sensor → Type 0) (p : Steps now R) where
   operation_meets : (s : Sensor) (value : ℕ) → R s (operation_written s value)
   operation_meets s value = p.then (p.operates s value) (mode_meets _ _)
 
-  then_automatic_meets : (w : WriteKind) (s : Sensor) (address value : ℕ) → R s (register_effect w s address value now) → R s (then_automatic w s address value now)
-  then_automatic_meets w s address value e = p.then e (automatic_meets _ _ false)
+  then_automatic_meets : (e : Effect) (s : Sensor) (address value : ℕ) → R s (register_effect e s address value now) → R s (then_automatic e s address value now)
+  then_automatic_meets e s address value r = p.then r (automatic_meets _ _ false)
 
   write_effect_meets : (w : WriteKind) (s : Sensor) (address value : ℕ) → write_kind s address value ≡ w → R s (write_effect w s address value now)
   unfolding write_effect register_effect
   write_effect_meets WriteKind.Ignored s address value k = same_as s
   write_effect_meets WriteKind.Stored s address value k = p.begins s address value k
-  write_effect_meets WriteKind.Reset s address value k = then_automatic_meets WriteKind.Reset s address value (p.soft_resets s)
-  write_effect_meets WriteKind.Control s address value k = then_automatic_meets WriteKind.Control s address value (control_meets s value)
-  write_effect_meets WriteKind.Measurement s address value k = then_automatic_meets WriteKind.Measurement s address value (p.measures s value)
-  write_effect_meets WriteKind.Operation s address value k = then_automatic_meets WriteKind.Operation s address value (operation_meets s value)
-  write_effect_meets WriteKind.Durations s address value k = then_automatic_meets WriteKind.Durations s address value (p.lasts s address value k)
-  write_effect_meets WriteKind.Plain s address value k = then_automatic_meets WriteKind.Plain s address value (p.puts s address value k)
+  write_effect_meets (WriteKind.Taken Effect.Reset) s address value k = then_automatic_meets Effect.Reset s address value (p.soft_resets s)
+  write_effect_meets (WriteKind.Taken Effect.Control) s address value k = then_automatic_meets Effect.Control s address value (control_meets s value)
+  write_effect_meets (WriteKind.Taken Effect.Measurement) s address value k = then_automatic_meets Effect.Measurement s address value (p.measures s value)
+  write_effect_meets (WriteKind.Taken Effect.Operation) s address value k = then_automatic_meets Effect.Operation s address value (operation_meets s value)
+  write_effect_meets (WriteKind.Taken Effect.Durations) s address value k = then_automatic_meets Effect.Durations s address value (p.lasts s address value k)
+  write_effect_meets (WriteKind.Taken Effect.Plain) s address value k = then_automatic_meets Effect.Plain s address value (p.puts s address value k)
 
   pub register_meets : (s : Sensor) (address value : ℕ) → R s (write_register s address value now)
   register_meets s address value = write_effect_meets (write_kind s address value) s address value refl
