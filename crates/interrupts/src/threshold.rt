@@ -99,7 +99,7 @@ impl<const HIGH: bool> Threshold<HIGH> {
         self
     }
 
-    // The count after a millisecond in which no criterion is met: it falls by the mode, to 0 at mode 0.
+    // The count after a millisecond in which the criterion is not met: it falls by the mode, to 0 at mode 0.
     fn counted_down(self, criteria: u8) -> u16
         ensures { result ≡ counted_down self.entry.count (mode HIGH criteria) }
     {
@@ -109,7 +109,7 @@ impl<const HIGH: bool> Threshold<HIGH> {
         }
     }
 
-    // A millisecond, and whether it fired.
+    // A millisecond, and whether it fired: the raised count exceeds the duration.
     #[tactic(auto, unfolding(crate::specs::Criteria::fires, crate::specs::Criteria::counted))]
     pub(crate) fn tick(self, registers: [u8; 62]) -> (Self, bool)
         ensures { result ≡ ticked self.entry HIGH registers }
