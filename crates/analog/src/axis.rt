@@ -9,13 +9,13 @@ use crate::wide::{low_64, round};
 use time::{Duration, Time};
 
 // A millionth of g.
-const SIGNAL: u64 = 1 << 24;
+const SIGNAL: u32 = 1 << 24;
 
 // An acceleration in the axis's units.
 fn target_of(input: i32) -> i64
     ensures { result ≡ Ax.target input }
 {
-    i64::from(input) * SIGNAL as i64
+    i64::from(input) * i64::from(SIGNAL)
 }
 
 // It stands still on the input.
@@ -88,7 +88,7 @@ impl Axis {
     pub fn value(self) -> i64
         ensures { result ≡ Ax.value self }
     {
-        low_64(round(self.output.into(), SIGNAL))
+        low_64(round(self.output.into(), SIGNAL.into()))
     }
 }
 
@@ -120,7 +120,7 @@ impl Analog {
     pub fn hold(self, now: Time, input: Acceleration) -> Analog
         ensures { result ≡ Ax.held self now input }
     {
-        self.with(input, |a, input| a.advance(now, input))
+        self.zip_with(input, |a, input| a.advance(now, input))
     }
 
     // Every axis whose input changes advances with the old one.
@@ -128,8 +128,8 @@ impl Analog {
     pub fn turn(self, now: Time, old: Acceleration, new: Acceleration) -> Analog
         ensures { result ≡ Ax.all_turned self now old new }
     {
-        let inputs = old.with(new, |old, new| (old, new));
-        self.with(inputs, |a, (old, new)| turned(a, now, old, new))
+        let inputs = old.zip_with(new, |old, new| (old, new));
+        self.zip_with(inputs, |a, (old, new)| turned(a, now, old, new))
     }
 }
 
@@ -157,8 +157,8 @@ impl<T: Copy> Axes<T> {
         }
     }
 
-    // What a function gives of each axis here and there.
-    fn with<U: Copy, V, F: Fn(T, U) -> V>(self, there: Axes<U>, f: F) -> Axes<V>
+    // What a function gives of the two values of each axis, the one here and the one there.
+    fn zip_with<U: Copy, V, F: Fn(T, U) -> V>(self, there: Axes<U>, f: F) -> Axes<V>
         requires { F.IsAlwaysCallable f }
         ensures { F.post f self.x there.x result.x × F.post f self.y there.y result.y × F.post f self.z there.z result.z }
     {

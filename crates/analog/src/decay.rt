@@ -33,7 +33,7 @@ const COMMON: Factors = Factors {
 // What remains after 8 ms or more.
 const NOTHING: Factors = Factors { re: 0, im: 0 };
 
-// One, as a complex number.
+// One, as a complex number. By `as`: a constant's value makes no call.
 const ONE: Factors = Factors {
     re: Q as i64,
     im: 0,
@@ -52,15 +52,16 @@ pub(crate) struct Angle {
     ghost small: { size ≤ 2 ^ 44 },
 }
 
-// A product of the series by 2^48 · n, rounded, by its size: `round` of the product divides by a variable in 128 bits,
-// and a setting that moves takes twice the time.
+// x times the angle, divided by 2^48 · n, rounded. The size first, the 2^48 by a shift: `round` would divide 128 bits by a variable, and
+// a setting that moves would take twice the time.
 fn share(x: i64, angle: Angle, n: u64) -> i64
     requires { (unsigned_abs x ≤ 2 ^ 50) × (0 < n) × (n ≤ 12) }
     ensures { (result ≡ R.round (x *ℤ pos angle.size) (D.unit * n)) × (unsigned_abs result ≤ 2 ^ 47) }
 {
     let product = u128::from(x.unsigned_abs()) * u128::from(angle.size);
     let size = ((product + u128::from(n * (Q / 2))) >> 48) as u64 / n;
-    if x < 0 { -(size as i64) } else { size as i64 }
+    let size = size.cast_signed();
+    if x < 0 { -size } else { size }
 }
 
 // The next term of the series, and the sums with it.

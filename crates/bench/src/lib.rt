@@ -5,7 +5,7 @@ ghost use Rattle.std.specs.Prelude.{◌≡◌, not, cond, ◌&&◌, ◌||◌, �
 ghost use Rattle.bench.specs.Block as B;
 
 use crate::steps::serve;
-use crate::text::Line;
+use crate::text::{LINE_ROOM, Line};
 use arrayvec::ArrayVec;
 use bma150::host::Bma150;
 use commands::{Opcode, decode, is_bad, size, wants};
@@ -18,6 +18,9 @@ pub mod types;
 // How many bytes of text a block makes, at most.
 pub const TEXT: usize = 65536;
 
+// The last place in it at which a line surely fits.
+const ROOM: usize = TEXT - LINE_ROOM;
+
 // After a block: the sensor, the bytes read, and whether refusal 7 stopped it.
 #[derive(Clone, Copy)]
 pub struct Ran {
@@ -26,15 +29,14 @@ pub struct Ran {
     pub stop: bool,
 }
 
-// Whether the command at the head is whole: its bytes are there, or no more come and one is.
+// Whether a whole command stands at the head: all its bytes are there, or no more come. Without a byte there is none.
 #[tactic(auto, unfolding(crate::specs::Block::is_whole), using(crate::specs::Theorems::Loop::none_left))]
 pub fn is_whole(bytes: &[u8], over: bool) -> bool
     ensures { result ≡ B.is_whole over bytes.now }
 {
-    match bytes {
-        [first, ..] => over || wants(*first) <= bytes.len(),
-        [] => false,
-    }
+    bytes
+        .first()
+        .is_some_and(|first| over || wants(*first) <= bytes.len())
 }
 
 // Whether the next due or pin command is lent, after a command with first byte b: for the trace every second one of a block is.
@@ -62,7 +64,7 @@ pub fn run(
     let mut stop = false;
     let mut lent = false;
     out.clear();
-    while !stop && out.len() <= 65408 && is_whole(left, over) {
+    while !stop && out.len() <= ROOM && is_whole(left, over) {
         let b = left[0];
         let command = decode(left);
         let reply = serve(sensor, command, left, lent);

@@ -16,7 +16,7 @@ use bma150::lent::{due_lent, pins_lent};
 use bma150::types::Replied;
 use calls::table::is_accepted;
 use calls::types::{Call, Refusal, Starting, Timed};
-use commands::Command;
+use commands::{Command, IMAGE};
 use i2c::types::Levels;
 use time::Time;
 use waits::types::Report;
@@ -180,7 +180,7 @@ pub(crate) fn serve(sensor: Bma150, c: Command, input: &[u8], lent: bool) -> Rep
     ensures { L.replied result ≡ L.commanded sensor c (D.image input.now) }
 {
     match c {
-        Command::Start(by, t) => start(sensor, by, t, &input[13..32]),
+        Command::Start(by, t) => start(sensor, by, t, &input[IMAGE]),
         Command::Host(call) => host(sensor, call, lent),
         Command::Bad => silent(sensor, Err(Refusal::Command)),
     }

@@ -5,9 +5,12 @@ ghost use Rattle.bench.specs.Text as T;
 use arrayvec::ArrayVec;
 use std::marker::Model;
 
-// The text of a line. It has room for 128 bytes: what goes beyond them is left out, and no line does (`reply`).
+// How many bytes a line has room for.
+pub(crate) const LINE_ROOM: usize = 128;
+
+// The text of a line: what goes beyond its room is left out, and no line does (`reply`).
 #[derive(Drop)]
-pub(crate) struct Line(ArrayVec<u8, 128>);
+pub(crate) struct Line(ArrayVec<u8, LINE_ROOM>);
 
 impl Model for Line {
     ghost use Rattle.std.specs.Prelude.{ℕ, List};

@@ -9,7 +9,7 @@ ghost use Rattle.bench_stream.specs.Loop as S;
 
 use arrayvec::ArrayVec;
 use bench::{TEXT, is_whole, run};
-use blocks::Kept;
+use blocks::KeptBytes;
 use bma150::host::Bma150;
 use sensor::image::stock;
 use std::fmt;
@@ -24,6 +24,12 @@ pub enum Failed {
 }
 
 impl fmt::Display for Failed {
+    ghost use Rattle.std.specs.Prelude.{Some};
+    ghost use Rattle.bench_stream.specs.Message.{message};
+
+    ghost output = { λ what. Some (message what) };
+
+    #[tactic(auto, unfolding(crate::specs::Message::message))]
     fn fmt<W: fmt::Write>(&self, f: &mut fmt::Formatter<W>) -> fmt::Result {
         match self {
             Failed::Read => write!(
@@ -45,7 +51,7 @@ pub struct Turn {
 }
 
 // More input. A read of nothing is the input's end; a read that fails is not.
-fn more<R: Read>(input: &mut R, kept: &mut Kept, trace: bool, t: Turn) -> Turn
+fn more<R: Read>(input: &mut R, kept: &mut KeptBytes, trace: bool, t: Turn) -> Turn
     requires going { S.goes_on t kept.old ≡ true }
     requires few { (t.over ≡ false) × (is_whole false kept.old ≡ false) }
     ensures { (o : List ℕ) (v : Option (List ℕ)) → S.Stepped trace t kept.old result kept.new o (R.remaining input.old) (R.remaining input.new) v v }
@@ -66,7 +72,7 @@ fn more<R: Read>(input: &mut R, kept: &mut Kept, trace: bool, t: Turn) -> Turn
 // `kept` and `out` stand apart here and below: a struct of the two would be made in `stream` only to be taken apart here.
 fn commands<W: Write>(
     output: &mut W,
-    kept: &mut Kept,
+    kept: &mut KeptBytes,
     out: &mut ArrayVec<u8, TEXT>,
     trace: bool,
     t: Turn,
@@ -89,7 +95,7 @@ fn commands<W: Write>(
 fn step<R: Read, W: Write>(
     input: &mut R,
     output: &mut W,
-    kept: &mut Kept,
+    kept: &mut KeptBytes,
     out: &mut ArrayVec<u8, TEXT>,
     trace: bool,
     t: Turn,
@@ -106,7 +112,7 @@ fn step<R: Read, W: Write>(
 
 // Whether something is left to do.
 #[tactic(auto, unfolding(crate::specs::Loop::goes_on))]
-fn goes_on(t: Turn, kept: &Kept) -> bool
+fn goes_on(t: Turn, kept: &KeptBytes) -> bool
     ensures { result ≡ S.goes_on t kept.now }
 {
     !t.stop && t.failed.is_none() && (!t.over || !kept.bytes().is_empty())
@@ -127,7 +133,7 @@ fn begin() -> Turn
 fn turns<R: Read, W: Write>(
     input: &mut R,
     output: &mut W,
-    kept: &mut Kept,
+    kept: &mut KeptBytes,
     out: &mut ArrayVec<u8, TEXT>,
     trace: bool,
 ) -> Turn
@@ -155,7 +161,7 @@ pub fn stream<R: Read, W: Write, E: Write>(
     ensures moved { S.Streamed trace result (R.remaining input.old) (R.remaining input.new) (W.contents output.old) (W.contents output.new) }
     ensures silent { result.failed ≡ None → Keeps (E.contents errors.old) (E.contents errors.new) }
 {
-    let mut kept = Kept::new();
+    let mut kept = KeptBytes::new();
     let mut out = ArrayVec::new();
     let t = turns(input, output, &mut kept, &mut out, trace);
     if let Some(what) = t.failed {

@@ -10,13 +10,13 @@ use std::marker::Model;
 // They stand from `at` to `have`. No `BufReader`, which allocates, and no `ArrayVec`: bytes leave in front and come behind, and are
 // moved once for each read.
 #[derive(Drop)]
-pub struct Kept {
+pub struct KeptBytes {
     buf: [u8; SIZE],
     at: usize,
     have: usize,
 }
 
-impl Model for Kept {
+impl Model for KeptBytes {
     ghost use Rattle.std.specs.Prelude.{ℕ, ◌-◌, ◌≤◌, List, take, drop};
 
     ghost Value = { List ℕ };
@@ -26,11 +26,11 @@ impl Model for Kept {
     ghost invariant = { λ k. (k.at ≤ k.have) × (k.have ≤ 65536) };
 }
 
-impl Kept {
-    pub fn new() -> Kept
+impl KeptBytes {
+    pub fn new() -> KeptBytes
         ensures { result ≡ [] }
     {
-        Kept {
+        KeptBytes {
             buf: [0; SIZE],
             at: 0,
             have: 0,

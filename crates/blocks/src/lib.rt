@@ -14,7 +14,7 @@ pub(crate) const SIZE: usize = 65536;
 mod kept;
 mod pending;
 
-pub use kept::Kept;
+pub use kept::KeptBytes;
 
 // What answers an item of N bytes by M bytes.
 pub trait Answers<const N: usize, const M: usize> {
@@ -40,7 +40,7 @@ pub fn drive<const N: usize, const M: usize, A: Answers<N, M>, R: Read, W: Write
     if SIZE < N || SIZE < M {
         return Err(io::Error::from(io::ErrorKind::InvalidInput));
     }
-    let mut kept = Kept::new();
+    let mut kept = KeptBytes::new();
     let mut pending = Pending::new();
     for _ in 0..u64::MAX {
         match kept.bytes().first_chunk() {

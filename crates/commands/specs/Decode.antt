@@ -140,7 +140,7 @@ opcode c =
     else if eqb c 0x0a then Ok Opcode.StoredImage
     else if eqb c 0x0b then Ok Opcode.View
     else if eqb c 0x0c then Ok Opcode.StartStored
-    else Err (record { 0 = c })
+    else Err (record {})
 
 -- the command that the opcode names
 unfoldable pub named : Opcode → List ℕ → Command

@@ -8,7 +8,11 @@ use analog::types::Acceleration;
 use calls::types::{Call, Starting, Timed};
 use i2c::types::Levels;
 use registers::fields::has;
+use std::ops::Range;
 use time::Time;
+
+// Where a start has its image: its last 19 bytes.
+pub const IMAGE: Range<usize> = 13..32;
 
 // A start, whose image stays in the input; a call of the host; or no command of the list. `Bad` and no `Option`: the
 // definitions have it as a command, also where operands are missing or not listed; refusal 7 answers it, and its byte is used up.
@@ -38,7 +42,7 @@ pub enum Opcode {
 
 // A byte that begins no command.
 #[derive(Clone, Copy, PartialEq, Eq, Debug)]
-pub struct UnknownByte(pub u8);
+pub struct UnknownByte;
 
 impl TryFrom<u8> for Opcode {
     ghost use Rattle.std.specs.Prelude.{◌≡◌};
@@ -63,7 +67,7 @@ impl TryFrom<u8> for Opcode {
             0x0a => Ok(Opcode::StoredImage),
             0x0b => Ok(Opcode::View),
             0x0c => Ok(Opcode::StartStored),
-            _ => Err(UnknownByte(byte)),
+            _ => Err(UnknownByte),
         }
     }
 }
@@ -133,12 +137,12 @@ fn levels(b: u8, scl: u8, sda: u8) -> Levels
     }
 }
 
-// The image is the last 19 bytes.
+// A start, if its image is there too.
 #[tactic(auto, unfolding(crate::specs::Decode::start))]
 fn start(by: Starting, command: &[u8]) -> Option<Command>
     ensures { D.or_bad result ≡ D.start by command.now }
 {
-    command.get(13..32)?;
+    command.get(IMAGE)?;
     Some(Command::Start(by, moment(command, 1)?))
 }
 

@@ -1,6 +1,6 @@
 // One criterion, high-g or low-g.
 ghost use Rattle.std.specs.Prelude.{◌≡◌, ◌%◌};
-ghost use Rattle.interrupts.specs.Criteria.{enabled, mode, raised, active, observe, fires, counted, ticked, restarted, cleared};
+ghost use Rattle.interrupts.specs.Criteria.{enabled, mode, raised, active, observe, ticked, restarted, cleared, counted_down};
 
 use registers::fields::{CRITERIA, ENABLE_HG, ENABLE_LG, counter_hg, counter_lg, has};
 
@@ -17,28 +17,6 @@ pub struct Threshold<const HIGH: bool> {
 pub type LowG = Threshold<false>;
 
 pub type HighG = Threshold<true>;
-
-// The raised count exceeds the duration.
-#[tactic(auto, unfolding(crate::specs::Criteria::fires))]
-fn fires(enabled: bool, met: bool, count: u16, duration: u8) -> bool
-    ensures { result ≡ fires enabled met count duration }
-{
-    enabled && met && u16::from(duration) <= count
-}
-
-// The count after a millisecond.
-#[tactic(auto, unfolding(crate::specs::Criteria::counted))]
-fn counted(enabled: bool, met: bool, count: u16, duration: u8, mode: u8) -> u16
-    ensures { result ≡ counted enabled met count duration mode }
-{
-    match (enabled, met) {
-        (false, _) => 0,
-        (true, true) if u16::from(duration) <= count => 0,
-        (true, true) => count + 1,
-        (true, false) if mode == 0 => 0,
-        (true, false) => count.saturating_sub(u16::from(mode)),
-    }
-}
 
 impl<const HIGH: bool> Threshold<HIGH> {
     // Whether the criterion is enabled.
@@ -121,22 +99,34 @@ impl<const HIGH: bool> Threshold<HIGH> {
         self
     }
 
-    // A millisecond, and whether it fired.
+    // The count after a millisecond in which the criterion is not met: it falls by the mode, to 0 at mode 0.
+    fn counted_down(self, criteria: u8) -> u16
+        ensures { result ≡ counted_down self.entry.count (mode HIGH criteria) }
+    {
+        match Self::mode(criteria) {
+            0 => 0,
+            mode => self.count.saturating_sub(u16::from(mode)),
+        }
+    }
+
+    // A millisecond, and whether it fired: the raised count exceeds the duration.
+    #[tactic(auto, unfolding(crate::specs::Criteria::fires, crate::specs::Criteria::counted))]
     pub(crate) fn tick(self, registers: [u8; 62]) -> (Self, bool)
         ensures { result ≡ ticked self.entry HIGH registers }
     {
         let criteria = registers[CRITERIA];
         let enabled = Self::enabled(criteria);
         let met = self.active();
-        let fired = fires(enabled, met, self.count, self.duration);
+        let fired = enabled && met && u16::from(self.duration) <= self.count;
+        let count = if fired || !enabled {
+            0
+        } else if met {
+            self.count + 1
+        } else {
+            self.counted_down(criteria)
+        };
         let threshold = Threshold {
-            count: counted(
-                enabled,
-                met,
-                self.count,
-                self.duration,
-                Self::mode(criteria),
-            ),
+            count,
             level: enabled && (fired || self.level),
             latched: fired || self.latched,
             ..self

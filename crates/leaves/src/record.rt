@@ -52,7 +52,7 @@ pub(crate) fn signed16(n: u64) -> i16 {
 
 // A code, with 32768 added.
 pub(crate) fn raised(code: i16) -> u64 {
-    (i32::from(code) + 32768) as u64
+    u64::from(code.cast_unsigned() ^ 0x8000)
 }
 
 // Two truths in one number.

@@ -12,8 +12,11 @@ pub(crate) const FOUR_WIRES: u8 = 1 << SPI4 | 1 << SHADOW_DIS;
 
 pub(crate) const THREE_WIRES: u8 = 1 << SHADOW_DIS;
 
+// What an event answers that views no register: the byte 0, as if one of 0 had been viewed. None is a view that is withheld.
+pub(crate) const NO_VIEW: Option<u8> = Some(0);
+
 // `operation` is the stored byte of register 15. `awake`: no soft reset since the start, so a sample is next. `consumed` and
-// `viewed` are what the last event answers beside the pins; there is none viewed where a view is withheld.
+// `viewed` are what the last event answers beside the pins.
 #[derive(Clone, Copy)]
 pub(crate) struct Sensor {
     pub(crate) i2c: State,
@@ -26,7 +29,8 @@ pub(crate) struct Sensor {
     pub(crate) viewed: Option<u8>,
 }
 
-// The registers as after a soft reset: the stock image, but for register 15. 12 and 13 are the customer's and have no name.
+// The registers as after a soft reset: the stock image, but for register 15. 12 and 13 are the customer's and have no name. `sensor` has
+// the image too, `serial` has `sent_byte` and `commands` has `levels`: this program reaches no crate above `i2c` and `spi`.
 fn reloaded(operation: u8) -> [u8; 62] {
     let mut r = [0u8; 62];
     r[CHIP_ID] = 2;
@@ -68,7 +72,7 @@ pub(crate) fn start(operation: u8) -> Sensor {
         quiet: false,
         awake: true,
         consumed: false,
-        viewed: Some(0),
+        viewed: NO_VIEW,
     }
 }
 
@@ -121,7 +125,7 @@ impl Sensor {
             registers: reloaded(self.operation),
             quiet: true,
             awake: false,
-            viewed: Some(0),
+            viewed: NO_VIEW,
             ..self
         }
     }

@@ -1,7 +1,7 @@
 // An event: 00..0f a report of the two lines (bits 3 and 2 the clock and data before, 1 and 0 after), 10 and 11 select,
 // 20 and 21 a rise with that data level, 30 a fall, 40 the quiet time ends, 60 and 61 a start in four- or three-wire
 // mode, 80..ff a view of a register. They stay the numbers of the protocol (oracle/README.md): an enum would only name each once more.
-use crate::both::{FOUR_WIRES, Sensor, THREE_WIRES, start};
+use crate::both::{FOUR_WIRES, NO_VIEW, Sensor, THREE_WIRES, start};
 use blocks::Answers;
 use i2c::types::{Action, Levels};
 use registers::fields::has;
@@ -10,6 +10,14 @@ use spi::types::{Clocked, Shift};
 // The byte that I2C sends: ones where there is none.
 fn sent_byte(tx: Option<u8>) -> u8 {
     tx.unwrap_or(0xff)
+}
+
+// The lines as two bits of an event, by number.
+fn levels(e: u8, scl: u8, sda: u8) -> Levels {
+    Levels {
+        scl: has(e, scl),
+        sda: has(e, sda),
+    }
 }
 
 impl Sensor {
@@ -60,15 +68,7 @@ impl Sensor {
     }
 
     fn report(self, e: u8) -> Sensor {
-        let before = Levels {
-            scl: has(e, 3),
-            sda: has(e, 2),
-        };
-        let after = Levels {
-            scl: has(e, 1),
-            sda: has(e, 0),
-        };
-        self.reported(before, after)
+        self.reported(levels(e, 3, 2), levels(e, 1, 0))
     }
 
     fn select(mut self, selected: bool) -> Sensor {
@@ -139,7 +139,7 @@ impl Sensor {
     fn event(self, e: u8) -> Sensor {
         let s = Sensor {
             consumed: false,
-            viewed: Some(0),
+            viewed: NO_VIEW,
             ..self
         };
         match e {

@@ -43,6 +43,9 @@ pub const OFFSET_MSB: usize = 0x1a;
 // Bits of ACC_LSB.
 pub const NEW_DATA: u8 = 0;
 
+// Bits of STATUS.
+pub const ST_RESULT: u8 = 7;
+
 // Bits of CONTROL.
 pub const RESET_INT: u8 = 6;
 

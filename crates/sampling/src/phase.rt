@@ -10,7 +10,7 @@ use control::lengths::acquisition_cycles;
 use registers::codes::{code, code_high, code_low, offset, temperature};
 use registers::fields::{
     ACC_LSB, ACC_MSB, CONTROL, MEASUREMENT, NEW_DATA, NEW_DATA_INT, OFFSET_LSB, OFFSET_MSB,
-    OPERATION, SELF_TEST_1, STATUS, TEMP, WAKE_UP, has, range,
+    OPERATION, SELF_TEST_0, SELF_TEST_1, ST_RESULT, STATUS, TEMP, WAKE_UP, has, range,
 };
 
 // The code of an axis's sampled acceleration. An axis is a number below 3, as in the definitions: a type of three values would be cast
@@ -138,8 +138,8 @@ impl Acquisition {
     fn end_test(&mut self)
         ensures { self.new ≡ P.test_ended self.old }
     {
-        self.registers[CONTROL] &= 0xfb;
-        self.registers[STATUS] |= 0x80;
+        self.registers[CONTROL] &= !(1 << SELF_TEST_0);
+        self.registers[STATUS] |= 1 << ST_RESULT;
         self.sampling.test = None;
     }
 

@@ -19,7 +19,7 @@ const LOW: u128 = u64::MAX as u128;
 pub struct Time(pub u64, pub u64);
 
 // A length of time: whole seconds and a fraction in units of 2^-64 s.
-#[derive(Clone, Copy, Debug, PartialEq, Eq, PartialOrd, Ord)]
+#[derive(Clone, Copy, Debug, PartialEq, Eq)]
 pub struct Duration(pub u64, pub u64);
 
 // The clock that samples: its start, and the number of the last edge that it advanced to.
@@ -44,7 +44,7 @@ impl Time {
         Time((ticks >> 64) as u64, (ticks & LOW) as u64)
     }
 
-    // This moment and a length later, modulo 2^128 units.
+    // The moment a length later than this one, modulo 2^128 units.
     pub fn plus(self, d: Duration) -> Time
         ensures { result ≡ T.plus self d }
     {

@@ -8,7 +8,7 @@ use Rattle.machine.proofs.Theorems.Blocks.{begun, pace_short, pace_full, pace_st
 use Rattle.bench.specs.Run.{bench}
 use Rattle.bench.specs.Theorems.Loop.{short, some, advance, went, going, finished}
 use Rattle.bench.proofs.run.Goals as goal
-use Rattle.bench.proofs.run.Goals.{then-loop-stop-test+then-len-le65408+else-is_whole, then-loop-stop-test+else-len-le65408, else-loop-stop-test}
+use Rattle.bench.proofs.run.Goals.{then-loop-stop-test+then-len-le-ROOM+else-is_whole, then-loop-stop-test+else-len-le-ROOM, else-loop-stop-test}
 
 -- what went well
 extended : {T E : Type 0} {P : Type 0} (r : Result T E) → IsOk r → OnOk r P → P
@@ -39,7 +39,7 @@ pub loop-stop-preserved : goal.loop-stop-preserved
 loop-stop-preserved c =
     let ran = c.loop-stop in
     let l = ran.left.now in
-    let room : length ran.out.items ≤ 65408 = omega (arith, c.len.ensures.value, c.if-len-le65408.true) in
+    let room : length ran.out.items ≤ 65408 = omega (arith, c.len.ensures.value, c.if-len-le-ROOM.true) in
     let fits : length ran.out.items + length c.text.result.now ≤ 65536 = omega (arith, room, c.text.ensures.fits) in
     let e = c.try_extend_from_slice.ensures in
     let lines = extended c.try_extend_from_slice.result (e.variant.1 fits) e.ok ∙ ap (λ m. ran.out.items ++ m) (c.text.ensures.value ∙ c.reply.ensures) in
@@ -52,8 +52,8 @@ returns c =
     let ran = c.loop-stop in
     let b = running ran.sensor ran.left.now ran.out.items ran.stop in
     let still : pace (bench c.args.trace) c.args.over b ≡ b = elim c.loop-stop-test.branch [
-      | then-loop-stop-test+then-len-le65408+else-is_whole w ↦ pace_short _ _ _ (short c.args.trace c.args.over _ (sym w.if-is_whole.ensures))
-      | then-loop-stop-test+else-len-le65408 w ↦ pace_full _ _ _ (omega (arith, w.len.ensures.value, w.if-len-le65408.false))
+      | then-loop-stop-test+then-len-le-ROOM+else-is_whole w ↦ pace_short _ _ _ (short c.args.trace c.args.over _ (sym w.if-is_whole.ensures))
+      | then-loop-stop-test+else-len-le-ROOM w ↦ pace_full _ _ _ (omega (arith, w.len.ensures.value, w.if-len-le-ROOM.false))
       | else-loop-stop-test w ↦ pace_stopped _ _ _ (stopped_turn _ _ w.loop-stop-test.false)
     ] in
     let done = finished c.args.trace ran.invariant still in

@@ -2,7 +2,7 @@ use Rattle.std.specs.Prelude.{◌≡◌, ◌-◌, ◌≤◌, min, length, drop}
 use Rattle.std.proofs.Common.{arith, ap, ◌∙◌}
 use Rattle.std.proofs.lemmas.List.{drop_min}
 use Rattle.blocks.proofs.Buffer.{kept, kept_length, shorter}
-use Rattle.blocks.proofs.kept.Kept.skip.Goals as goal
+use Rattle.blocks.proofs.kept.KeptBytes.skip.Goals as goal
 
 pub returns : goal.returns
 returns c =

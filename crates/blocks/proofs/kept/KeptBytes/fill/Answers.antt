@@ -3,7 +3,7 @@ use Rattle.std.proofs.Common.{arith, sym, ap, ◌∙◌, length-take-le, length-
 use Rattle.std.proofs.lemmas.List.{take-append-le}
 use Rattle.std.proofs.lemmas.Result.{err_from_is_err_and}
 use Rattle.blocks.proofs.Buffer.{kept, kept_length, front, untouched, behind}
-use Rattle.blocks.proofs.kept.Kept.fill.Goals as goal
+use Rattle.blocks.proofs.kept.KeptBytes.fill.Goals as goal
 
 pub returns-in_err-got : goal.returns-in_err-got
 returns-in_err-got g c =
