@@ -1,9 +1,10 @@
 -- When the stage moves, and when it is left alone (analog.rs as bma150.rs and bma150/control.rs call it): an equation for each.
 use Rattle.sensor.specs.Operation.{Operation}
-use Rattle.std.specs.Prelude.{ℕ, suc, ◌<◌, ◌≤◌, ◌≡◌, Bool, cond, List, eqb, ℤ, Option, Some, None}
+use Rattle.std.specs.Prelude.{ℕ, suc, ◌<◌, ◌≤◌, ◌≡◌, Bool, List, eqb, ℤ, Option, Some, None}
 use Rattle.std.proofs.Math.Path.{refl}
 use Rattle.std.proofs.Common.{ap, ◌∙◌, le-ltb, lt-ltb}
 use Rattle.std.proofs.Math.Bool.{true, false}
+use Rattle.std.proofs.lemmas.Bool.{cond_both}
 use Rattle.time.specs.declared.Time.{Time}
 use Rattle.time.specs.declared.Duration.{Duration}
 use Rattle.time.specs.Clock as Clock
@@ -11,6 +12,7 @@ use Rattle.analog.specs.Axis.{Acceleration, Analog}
 use Rattle.analog.specs.Axis as A
 use Rattle.sampling.specs.declared.types.Input.{Input}
 use Rattle.sampling.specs.declared.types.Acquisition.{Acquisition}
+use Rattle.sampling.specs.declared.types.Sampling.{Sampling}
 use Rattle.sampling.specs.Phase as Phase
 use Rattle.sampling.specs.Stage as Stage
 use Rattle.sensor.specs.declared.types.Outage.{Outage}
@@ -18,7 +20,7 @@ use Rattle.sensor.specs.declared.types.Sensor.{Sensor}
 use Rattle.spi.specs.Frame as F
 use Rattle.sensor.specs.Record.{away, cold_of, is_off, is_cold}
 use Rattle.sensor.specs.Image.{from_nonvolatile}
-use Rattle.sensor.specs.Select.{reselected, selected_to, may_select}
+use Rattle.sensor.specs.Select.{selected_to, may_select}
 use Rattle.sensor.specs.Mode.{start_acquisition, pause, soft_reset}
 use Rattle.waits.specs.declared.types.Served.{Served}
 use Rattle.effects.specs.Theorems.Phases.{phase_measures, phase_warms, phase_tests}
@@ -95,11 +97,7 @@ module _ (s : Sensor) (input : Acceleration) (now : Time) where
 
   asleep_set : s.sampling.asleep ≡ true → stage (set_input s input now) ≡ stage s
   unfolding turned Stage.turned
-  asleep_set asleep = by (is_off s)
-    where
-      by : (b : Bool) → (cond b s.sampling (Stage.turned s.sampling now s.kept.input.acceleration input)).analog ≡ stage s
-      by true = refl
-      by false = rw asleep
+  asleep_set asleep = cond_both (is_off s) _ _ (λ (g : Sampling). g.analog ≡ stage s) (λ e. refl) (λ e. rw asleep)
 
   off_set : is_off s ≡ true → stage (set_input s input now) ≡ stage s
   unfolding turned
@@ -123,11 +121,7 @@ cut_stays (Some w) s now = refl
 
 deselected : (s : Sensor) (b : Bool) → stage (selected_to s b) ≡ stage s
 unfolding selected_to
-deselected s b = by (F.changes s.frame b)
-  where
-    by : (c : Bool) → stage (cond c (reselected s b) s) ≡ stage s
-    by true = refl
-    by false = refl
+deselected s b = cond_both (F.changes s.frame b) _ _ (λ (t : Sensor). stage t ≡ stage s) (λ e. refl) (λ e. refl)
 
 lost_stage : (s : Sensor) (now : Time) (cold : Bool) → stage (power_off s now cold).sensor ≡ stage (held s now)
 lost_stage s now cold =

@@ -1,11 +1,13 @@
 -- What a phase leaves of an acquisition, for any part of it that neither the criteria nor the count of scans changes.
-use Prim.Native.Nat.{ℕ, suc, ◌-◌}
+use Prim.Native.Nat.{ℕ, zero, suc, ◌-◌, ◌<◌}
 use native.Mathlib.Omega.{arith}
-use Rattle.std.specs.Prelude.{◌≡◌, Bool, true, false, cond, ◌&&◌, List, Option, Some, None}
+use Rattle.std.specs.Prelude.{◌≡◌, ◌&&◌, List, Option, Some, None}
 use Rattle.std.proofs.Math.Path.{refl}
 use Rattle.std.proofs.Common.{◌∙◌}
 use Rattle.std.proofs.Math.Dec.{eqb}
 use borrow.Author.Tests.{ne_eqb}
+use Rattle.std.proofs.lemmas.Bool.{cond_both}
+use Rattle.laws.specs.Iterate.{iterate}
 use Rattle.interrupts.specs.declared.Interrupts.{Interrupts}
 use Rattle.sampling.specs.declared.types.Input.{Input}
 use Rattle.sampling.specs.declared.types.Acquisition.{Acquisition}
@@ -28,21 +30,17 @@ module _ {A : Type 0} (part : Acquisition → A)
     (count_apart : (c : Acquisition) → part (Phase.counted c) ≡ part c)
     (input : Input) (needs : List ℕ)
   where
-    either : (b : Bool) (d e c : Acquisition) → part d ≡ part c → part e ≡ part c → part (cond b d e) ≡ part c
-    either true d e c p q = p
-    either false d e c p q = q
-
     observed_same : (c : Acquisition) → part (Phase.observed c needs) ≡ part c
     unfolding Phase.observed
-    observed_same c = either (Phase.observing c.registers c.sampling) _ c c (interrupts_apart c _) refl
+    observed_same c = cond_both (Phase.observing c.registers c.sampling) _ _ (λ (d : Acquisition). part d ≡ part c) (λ e. interrupts_apart c _) (λ e. refl)
 
     scanned_same : (c : Acquisition) (axis : ℕ) → part (Phase.scanned c axis needs) ≡ part c
     unfolding Phase.scanned
-    scanned_same c axis = either (eqb axis 2) _ c c (observed_same (Phase.counted c) ∙ count_apart c) refl
+    scanned_same c axis = cond_both (eqb axis 2) _ _ (λ (d : Acquisition). part d ≡ part c) (λ e. observed_same (Phase.counted c) ∙ count_apart c) (λ e. refl)
 
     pub ticked_same : (c : Acquisition) → part (Phase.ticked c) ≡ part c
     unfolding Phase.ticked
-    ticked_same c = either (Phase.ticks_now c) _ c c (interrupts_apart c _) refl
+    ticked_same c = cond_both (Phase.ticks_now c) _ _ (λ (d : Acquisition). part d ≡ part c) (λ e. interrupts_apart c _) (λ e. refl)
 
     -- a phase of an axis, without a self test and with one
     axis_measures : (t : Option ℕ) (c : Acquisition) (axis : ℕ) → t ≡ None → part (Phase.axis_phase t c input (suc axis) needs) ≡ part (Phase.measured c input axis)
@@ -53,7 +51,7 @@ module _ {A : Type 0} (part : Acquisition → A)
 
     axis_tests : (t : Option ℕ) (c : Acquisition) (left phase : ℕ) → t ≡ Some left → part (Phase.test_ended c) ≡ part c → part (Phase.axis_phase t c input phase needs) ≡ part c
     unfolding Phase.axis_phase
-    axis_tests t c left phase e q = rw e (either (eqb phase 3 && eqb left 0) _ c c q refl)
+    axis_tests t c left phase e q = rw e (cond_both (eqb phase 3 && eqb left 0) _ _ (λ (d : Acquisition). part d ≡ part c) (λ h. q) (λ h. refl))
 
     pub phase_measures : (c : Acquisition) (axis : ℕ) → Phase.phase_of c.sampling.clock.ordinal ≡ suc axis → c.sampling.test ≡ None
         → part (Phase.sample_phase c input needs) ≡ part (Phase.measured (counted_down c) input axis)
@@ -69,5 +67,30 @@ module _ {A : Type 0} (part : Acquisition → A)
         → part (Phase.sample_phase c input needs) ≡ part c
     unfolding Phase.sample_phase
     phase_tests c left e warm down end =
-        either (eqb (Phase.phase_of c.sampling.clock.ordinal) 0) _ _ c warm
-        (axis_tests (Phase.test_counted c.sampling.test) _ (Phase.one_less left) (Phase.phase_of c.sampling.clock.ordinal) (counted_on _ left e) end ∙ down)
+        cond_both (eqb (Phase.phase_of c.sampling.clock.ordinal) 0) _ _ (λ (d : Acquisition). part d ≡ part c) (λ z. warm)
+        (λ z. axis_tests (Phase.test_counted c.sampling.test) _ (Phase.one_less left) (Phase.phase_of c.sampling.clock.ordinal) (counted_on _ left e) end ∙ down)
+
+    -- a part that no step of an edge changes stays over any number of edges
+    module _ (advances : (c : Acquisition) → part (Phase.advanced c) ≡ part c) (counts_down : (c : Acquisition) → part (counted_down c) ≡ part c)
+        (warms : (c : Acquisition) → part (Phase.warmed c input) ≡ part c) (measures : (c : Acquisition) (axis : ℕ) → axis < 3 → part (Phase.measured c input axis) ≡ part c)
+        (ends : (c : Acquisition) → part (Phase.test_ended c) ≡ part c)
+      where
+        axis_same : (t : Option ℕ) (c : Acquisition) (phase : ℕ) → phase < 4 → part (Phase.axis_phase t c input phase needs) ≡ part c
+        unfolding Phase.axis_phase
+        axis_same None c phase small = scanned_same (Phase.measured c input (phase - 1)) (phase - 1) ∙ measures c (phase - 1) (omega arith)
+        axis_same (Some left) c phase small = axis_tests (Some left) c left phase refl (ends c)
+
+        phase_same : (c : Acquisition) → part (Phase.sample_phase c input needs) ≡ part c
+        unfolding Phase.sample_phase
+        phase_same c =
+            cond_both (eqb (Phase.phase_of c.sampling.clock.ordinal) 0) _ _ (λ (d : Acquisition). part d ≡ part c) (λ e. warms _ ∙ counts_down c)
+            (λ e. axis_same (Phase.test_counted c.sampling.test) _ (Phase.phase_of c.sampling.clock.ordinal) (omega arith) ∙ counts_down c)
+
+        pub sample_same : (c : Acquisition) → part (Phase.sample input needs c) ≡ part c
+        unfolding Phase.sample
+        sample_same c = ticked_same _ ∙ phase_same (Phase.advanced c) ∙ advances c
+
+        pub samples_same : (n : ℕ) (c : Acquisition) → part (Phase.samples n c input needs) ≡ part c
+        unfolding iterate
+        samples_same zero c = refl
+        samples_same (suc n) c = sample_same (Phase.samples n c input needs) ∙ samples_same n c
