@@ -1,6 +1,5 @@
 -- Marks over every list: by induction over the calls.
 use mathlib.Core.Path.{◌≡◌, refl}
-use mathlib.Core.Bool.{Bool, true, false, cond}
 use mathlib.Core.List.{List, [], ◌∷◌}
 use lib.ListN.{length}
 use Rattle.time.specs.Time.{time}
@@ -8,7 +7,7 @@ use Rattle.calls.specs.declared.types.Call.{Call}
 use Rattle.calls.proofs.Theorems.Left.{start_length}
 use Rattle.sensor.specs.Image.{stock, reset_registers}
 use Rattle.bma150.specs.declared.host.Bma150.{Bma150}
-use Rattle.bma150.specs.Called.{leaves, measurement_of}
+use Rattle.bma150.specs.Called.{measurement_of}
 use Rattle.effects.specs.Marks.{Sized, Emptied, Course}
 use Rattle.effects.specs.Theorems.Sizes.{copied_length}
 use Rattle.effects.specs.Theorems.Marks as M
@@ -39,7 +38,7 @@ fresh : (b : Start) → Sized (started b).sensor × Emptied (started b).sensor
 fresh b =
     at_start (λ x. Sized x.sensor × Emptied x.sensor) b
     (λ e. let n : length b.image ≡ 19 = start_length b.by b.time (length b.image) (measurement_of b.image) e in
-        (record { registers = copied_length reset_registers b.image refl n; stored = n; marks = refl }, (M.marks).start_single b.time b.image))
+    (record { registers = copied_length reset_registers b.image refl n; stored = n; marks = refl }, (M.marks).start_single b.time b.image))
     (record { registers = refl; stored = refl; marks = refl }, (M.marks).start_single (time 0) stock)
 
 pub marked_runs : MarkedRuns

@@ -1,7 +1,7 @@
 -- A pin call changes the running write alone of the five parts, and as the book says.
 use Rattle.std.specs.Prelude.{Option, Some, None}
 use Rattle.sensor.specs.Operation.{Operation, stored_write}
-use Prim.Native.Nat.{ℕ, ◌%◌}
+use Prim.Native.Nat.{ℕ}
 use mathlib.Core.Path.{◌≡◌, refl, sym, ap, subst, ◌∙◌}
 use mathlib.Core.Bool.{Bool, true, false, cond, not, ◌&&◌}
 use lib.Dec.{ltb}
@@ -23,7 +23,7 @@ use Rattle.control.specs.Theorems.Begins.{is_stored, stored_begins}
 use Rattle.sensor.specs.declared.types.Sensor.{Sensor}
 use Rattle.sensor.specs.Record.{with_writing, with_frame, with_i2c, is_quiet, gate, is_writing, four_wire}
 use Rattle.writes.specs.Write.{write_effect, write_kind, write_register}
-use Rattle.sensor.specs.RegisterReads.{peek, counts_as_read, acceleration_read, byte_read, read_began}
+use Rattle.sensor.specs.RegisterReads.{peek, counts_as_read, byte_read, read_began}
 use Rattle.serial.specs.SpiEdges.{first_bit_taken, write_done, bit_done, bit_taken, turned, shift_output, spi_listens, rising_effect}
 use Rattle.serial.specs.I2cPins.{acted, stepped, ones_for, i2c_listens, i2c_pins}
 use Rattle.book.specs.Does.{spi_write, action_write, i2c_write}

@@ -1,6 +1,6 @@
 -- The book's cells are their closed form, for every accepted start and every list of calls.
 use Rattle.std.specs.Prelude.{ℕ, zero, suc, ◌+◌, ◌-◌, ◌≤◌, ◌<◌, ◌≡◌, refl, Bool, true, false, not, ◌&&◌, leb, ltb, length, get_or, set, Option, Some, None}
-use Rattle.std.proofs.Common.{arith, le_of_suc-le-suc, add-zero, not-suc-le-zero, sym, subst, ◌∙◌, length-set, get_or-set_same, get_or-set_other, ext_get_or, leb-true, le-leb, eqb-true}
+use Rattle.std.proofs.Common.{arith, le_of_suc-le-suc, add-zero, not-suc-le-zero, sym, subst, ◌∙◌, get_or-set_same, get_or-set_other, ext_get_or, leb-true, le-leb, eqb-true}
 use Rattle.std.proofs.Math.Path.{ap}
 use Rattle.std.proofs.Math.Bool.{cond, and-false}
 use mathlib.Core.List.{List, [], ◌∷◌, map}

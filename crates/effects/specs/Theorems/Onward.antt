@@ -1,5 +1,5 @@
 -- What happens to a sensor at a moment leaves no axis of the stage ahead of it, where none was.
-use Rattle.std.specs.Prelude.{ℕ, ◌≤◌, ◌≡◌, refl, Bool, Option}
+use Rattle.std.specs.Prelude.{◌≤◌, ◌≡◌, refl, Bool, Option}
 use Rattle.std.proofs.Common.{eqb-true}
 use Rattle.std.proofs.Math.Bool.{true}
 use Rattle.std.proofs.Math.Nat.{le_of_eq}

@@ -9,7 +9,7 @@ use Rattle.std.proofs.lemmas.Bool.{cond_both}
 use Rattle.laws.specs.Iterate.{iterate}
 use Rattle.time.specs.declared.Time.{Time}
 use Rattle.time.specs.declared.Clock.{Clock}
-use Rattle.time.specs.Time.{ticks, time, next_unit}
+use Rattle.time.specs.Time.{ticks, time}
 use Rattle.time.specs.Clock as C
 use Rattle.time.specs.Theorems.Laws.{ticks_time}
 use Rattle.time.specs.Theorems.Edges.{within}
