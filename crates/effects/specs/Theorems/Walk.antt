@@ -90,6 +90,9 @@ module _ (now : Time) (R : Sensor → Sensor → Type 0) (p : OnDemand now R) wh
   pins_synced_met s e = cond_both (i2c_listens s && (E.consumes_conversion s.i2c e && not (is_quiet s))) _ _ (R s) (λ q. sync_met s true) (λ q. p.itself s)
 
 module _ (now : Time) (R : Sensor → Sensor → Type 0) (p : Steps now R) where
+  same_as : (s : Sensor) → R s s
+  same_as s = p.itself s
+
   on_demand : OnDemand now R
   on_demand = record { itself = p.itself; then = p.then; edges = p.edges; pauses = p.pauses; holds = p.holds; manual = p.manual }
 
@@ -103,34 +106,34 @@ module _ (now : Time) (R : Sensor → Sensor → Type 0) (p : Steps now R) where
 
   recounted_meets : (s : Sensor) (again : Bool) → R s (recounted s again)
   unfolding recounted
-  recounted_meets s again = cond_both again _ _ (R s) (λ e. p.recounts s) (λ e. p.itself s)
+  recounted_meets s again = cond_both again _ _ (R s) (λ e. p.recounts s) (λ e. same_as s)
 
   interrupts_meets : (s : Sensor) (value : ℕ) → R s (interrupts_written s value)
   unfolding interrupts_written
-  interrupts_meets s value = cond_both (Kinds.resets_interrupts value) _ _ (R s) (λ e. p.then (p.resets s) (recounted_meets _ (automatic s))) (λ e. p.itself s)
+  interrupts_meets s value = cond_both (Kinds.resets_interrupts value) _ _ (R s) (λ e. p.then (p.resets s) (recounted_meets _ (automatic s))) (λ e. same_as s)
 
   tested_meets : (t : Option SelfTest) (s : Sensor) → R s (tested t s)
   unfolding tested
   tested_meets (Some SelfTest.Starts) s = p.test_starts s
   tested_meets (Some SelfTest.Stops) s = p.test_stops s
-  tested_meets None s = p.itself s
+  tested_meets None s = same_as s
 
   slept_meets : (t : Option Sleep) (s : Sensor) → R s (slept t s now)
   unfolding slept
   slept_meets (Some Sleep.Wakes) s = p.acquires s (from_millis 1)
   slept_meets (Some Sleep.Pauses) s = p.pauses s
-  slept_meets None s = p.itself s
+  slept_meets None s = same_as s
 
   image_meets : (s : Sensor) (value : ℕ) → R s (image_written s value now)
   unfolding image_written
-  image_meets s value = cond_both (Kinds.copies_image value) _ _ (R s) (λ e. p.copy_begins s) (λ e. p.itself s)
+  image_meets s value = cond_both (Kinds.copies_image value) _ _ (R s) (λ e. p.copy_begins s) (λ e. same_as s)
 
   control_meets : (s : Sensor) (value : ℕ) → R s (control_written s value now)
   control_meets s value = p.then (p.controls s value) (p.then (interrupts_meets _ value) (p.then (tested_meets _ _) (p.then (slept_meets _ _) (image_meets _ value))))
 
   mode_meets : (s : Sensor) (turns : Bool) → R s (mode_written s turns)
   unfolding mode_written recounted
-  mode_meets s turns = cond_both turns _ _ (R s) (λ e. p.then (p.recounts s) (p.drops_hold _)) (λ e. p.itself s)
+  mode_meets s turns = cond_both turns _ _ (R s) (λ e. p.then (p.recounts s) (p.drops_hold _)) (λ e. same_as s)
 
   operation_meets : (s : Sensor) (value : ℕ) → R s (operation_written s value)
   operation_meets s value = p.then (p.operates s value) (mode_meets _ _)
@@ -140,7 +143,7 @@ module _ (now : Time) (R : Sensor → Sensor → Type 0) (p : Steps now R) where
 
   write_effect_meets : (w : WriteKind) (s : Sensor) (address value : ℕ) → write_kind s address value ≡ w → R s (write_effect w s address value now)
   unfolding write_effect register_effect
-  write_effect_meets WriteKind.Ignored s address value k = p.itself s
+  write_effect_meets WriteKind.Ignored s address value k = same_as s
   write_effect_meets WriteKind.Stored s address value k = p.begins s address value k
   write_effect_meets WriteKind.Reset s address value k = then_automatic_meets WriteKind.Reset s address value (p.soft_resets s)
   write_effect_meets WriteKind.Control s address value k = then_automatic_meets WriteKind.Control s address value (control_meets s value)
@@ -161,16 +164,16 @@ module _ (now : Time) (R : Sensor → Sensor → Type 0) (p : Steps now R) where
 
   byte_read_meets : (t : Option ℕ) (s : Sensor) (address : ℕ) → R s (byte_read t s address)
   unfolding byte_read
-  byte_read_meets None s address = p.itself s
-  byte_read_meets (Some b) s address = cond_both (counts_as_read s address) _ _ (R s) (λ e. p.reads s address b e) (λ e. p.itself s)
+  byte_read_meets None s address = same_as s
+  byte_read_meets (Some b) s address = cond_both (counts_as_read s address) _ _ (R s) (λ e. p.reads s address b e) (λ e. same_as s)
 
   pub select_meets : (s : Sensor) (selected : Bool) → R s (set_selected s selected)
   unfolding selected_to
-  select_meets s selected = cond_both (F.changes s.frame (may_select s selected)) _ _ (R s) (λ e. p.reselects s (may_select s selected)) (λ e. p.itself s)
+  select_meets s selected = cond_both (F.changes s.frame (may_select s selected)) _ _ (R s) (λ e. p.reselects s (may_select s selected)) (λ e. same_as s)
 
   moved_meets : (m : Shift) (s : Sensor) → R s (moved m s)
   unfolding moved
-  moved_meets Shift.Stay s = p.itself s
+  moved_meets Shift.Stay s = same_as s
   moved_meets (Shift.Fetch a) s = p.then (fetched_meets (peek s a) s a) (p.shifts _ _)
   moved_meets Shift.Next s = p.shifts s s.frame.tx
 
@@ -181,25 +184,25 @@ module _ (now : Time) (R : Sensor → Sensor → Type 0) (p : Steps now R) where
 
   pause_ended_meets : (s : Sensor) → R s (pause_ended s now)
   unfolding pause_ended
-  pause_ended_meets s = cond_both (is_at s.deadlines.pause now) _ _ (R s) (λ e. p.acquires s (from_millis 1)) (λ e. p.itself s)
+  pause_ended_meets s = cond_both (is_at s.deadlines.pause now) _ _ (R s) (λ e. p.acquires s (from_millis 1)) (λ e. same_as s)
 
   write_ended_meets : (op : Operation) (s : Sensor) → s.writing ≡ op → R s (write_ended op s now).sensor
   unfolding write_ended
-  write_ended_meets None s o = p.itself s
+  write_ended_meets None s o = same_as s
   write_ended_meets (Some w) s o =
-      cond_both (same (Cycle.deadline w.cycle) now) (completed s w.address w.value) (S.without_report s) (λ (x : Served). R s x.sensor) (λ e. p.then (p.completes s w o) (p.copies _)) (λ e. p.itself s)
+      cond_both (same (Cycle.deadline w.cycle) now) (completed s w.address w.value) (S.without_report s) (λ (x : Served). R s x.sensor) (λ e. p.then (p.completes s w o) (p.copies _)) (λ e. same_as s)
 
   image_ended_meets : (s : Sensor) → R s (image_ended s now)
   unfolding image_ended
-  image_ended_meets s = cond_both (is_at s.deadlines.image now) _ _ (R s) (λ e. p.loads s) (λ e. p.itself s)
+  image_ended_meets s = cond_both (is_at s.deadlines.image now) _ _ (R s) (λ e. p.loads s) (λ e. same_as s)
 
   wake_ended_meets : (s : Sensor) → R s (wake_ended s now)
   unfolding wake_ended
-  wake_ended_meets s = cond_both (is_at s.deadlines.wake now) _ _ (R s) (λ e. p.wakes s) (λ e. p.itself s)
+  wake_ended_meets s = cond_both (is_at s.deadlines.wake now) _ _ (R s) (λ e. p.wakes s) (λ e. same_as s)
 
   sample_ended_meets : (s : Sensor) → R s (sample_ended s now)
   unfolding sample_ended
-  sample_ended_meets s = cond_both (sample_due_now s now) _ _ (R s) (λ e. p.due_edge s e) (λ e. p.itself s)
+  sample_ended_meets s = cond_both (sample_due_now s now) _ _ (R s) (λ e. p.due_edge s e) (λ e. same_as s)
 
   sample_meets : (s : Sensor) (was hold : Bool) → R s (sample_served s now was hold)
   sample_meets s was hold = p.then (sample_ended_meets s) (automatic_meets _ was _)
@@ -217,7 +220,7 @@ module _ (now : Time) (R : Sensor → Sensor → Type 0) (p : Steps now R) where
 
   cut_meets : (op : Operation) (s : Sensor) → s.writing ≡ op → R s (S.cut op s now).sensor
   unfolding S.cut
-  cut_meets None s o = p.itself s
+  cut_meets None s o = same_as s
   cut_meets (Some w) s o = p.cuts s w o
 
   off_meets : (s : Sensor) (cold : Bool) → R s (S.off s now cold)
@@ -228,11 +231,11 @@ module _ (now : Time) (R : Sensor → Sensor → Type 0) (p : Steps now R) where
 
   zero_meets : (s : Sensor) (o : Outage) (zero : Bool) → s.outage ≡ Some o → R s (S.zero_while_off s o zero)
   unfolding S.zero_while_off
-  zero_meets s o zero e = cond_both zero _ _ (R s) (λ q. p.meets_zero s o e) (λ q. p.itself s)
+  zero_meets s o zero e = cond_both zero _ _ (R s) (λ q. p.meets_zero s o e) (λ q. same_as s)
 
   reacquired_meets : (s : Sensor) → R s (S.reacquired s now)
   unfolding S.reacquired
-  reacquired_meets s = cond_both s.sampling.asleep _ _ (R s) (λ e. p.itself s) (λ e. p.acquires s (from_millis 1))
+  reacquired_meets s = cond_both s.sampling.asleep _ _ (R s) (λ e. same_as s) (λ e. p.acquires s (from_millis 1))
 
   returned_meets : (s : Sensor) (o : Outage) → s.outage ≡ Some o → R s (S.returned s o now)
   unfolding S.returned away
@@ -245,7 +248,7 @@ module _ (now : Time) (R : Sensor → Sensor → Type 0) (p : Steps now R) where
 
   supply_ok_meets : (o : Option Outage) (s : Sensor) → s.outage ≡ o → R s (S.supply_ok o s now)
   unfolding S.supply_ok
-  supply_ok_meets None s e = p.itself s
+  supply_ok_meets None s e = same_as s
   supply_ok_meets (Some o) s e = returned_meets s o e
 
   pub supply_meets : (s : Sensor) (rail : ℕ) → R s (S.set_supply s rail now).sensor
@@ -258,12 +261,12 @@ module _ (now : Time) (R : Sensor → Sensor → Type 0) (p : Steps now R) where
 
   first_bit_meets : (k : Option ℕ) (s : Sensor) → R s (first_bit_taken k s)
   unfolding first_bit_taken
-  first_bit_meets None s = p.itself s
+  first_bit_meets None s = same_as s
   first_bit_meets (Some a) s = byte_read_meets s.frame.tx s a
 
   write_done_meets : (w : Option (ℕ × ℕ)) (s : Sensor) → R s (write_done w s now)
   unfolding write_done
-  write_done_meets None s = p.itself s
+  write_done_meets None s = same_as s
   write_done_meets (Some (a, v)) s = register_meets s a v
 
   bit_meets : (s : Sensor) (mosi : Bool) → R s (bit_taken s mosi now)
@@ -278,14 +281,14 @@ module _ (now : Time) (R : Sensor → Sensor → Type 0) (p : Steps now R) where
 
   rising_effect_meets : (s : Sensor) (mosi : Bool) → R s (rising_effect s mosi now)
   unfolding rising_effect
-  rising_effect_meets s mosi = cond_both (spi_listens s) _ _ (R s) (λ e. cond_both s.frame.turnaround _ _ (R s) (λ f. turned_meets s) (λ f. bit_meets s mosi)) (λ e. p.itself s)
+  rising_effect_meets s mosi = cond_both (spi_listens s) _ _ (R s) (λ e. cond_both s.frame.turnaround _ _ (R s) (λ f. turned_meets s) (λ f. bit_meets s mosi)) (λ e. same_as s)
 
   pub rising_meets : (s : Sensor) (mosi : Bool) → R s (rising_at s mosi now)
   rising_meets s mosi = p.then (rise_synced_met now R on_demand s) (rising_effect_meets (rise_synced s now) mosi)
 
   falling_effect_meets : (s : Sensor) → R s (falling_effect s)
   unfolding falling_effect
-  falling_effect_meets s = cond_both (not (serial_not_ready s) && not (is_off s)) _ _ (R s) (λ e. shift_meets s Clocked.Fall) (λ e. p.itself s)
+  falling_effect_meets s = cond_both (not (serial_not_ready s) && not (is_off s)) _ _ (R s) (λ e. shift_meets s Clocked.Fall) (λ e. same_as s)
 
   pub falling_meets : (s : Sensor) → R s (falling_at s now)
   falling_meets s = p.then (fall_synced_met now R on_demand s) (falling_effect_meets (fall_synced s now))
@@ -294,7 +297,7 @@ module _ (now : Time) (R : Sensor → Sensor → Type 0) (p : Steps now R) where
 
   acted_meets : (a : Option Action) (s : Sensor) → R s (acted a s now)
   unfolding acted
-  acted_meets None s = p.itself s
+  acted_meets None s = same_as s
   acted_meets (Some Action.Drop) s = p.then (p.sends s None) (p.drops_read _)
   acted_meets (Some (Action.Write r v)) s = p.then (register_meets s r v) (p.acknowledges _)
   acted_meets (Some (Action.Launch r)) s =
