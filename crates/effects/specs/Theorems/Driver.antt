@@ -116,10 +116,8 @@ pub record Fades (s t : Sensor) : Type 0 where
   pub driver : t.frame.driven ≡ cond stays s.frame.driven D.Floating
 
 and_cond : (a b : Bool) (d : Drive) → cond b (cond a d D.Floating) D.Floating ≡ cond (a && b) d D.Floating
-and_cond true true d = refl
-and_cond true false d = refl
-and_cond false true d = refl
-and_cond false false d = refl
+and_cond true b d = refl
+and_cond false b d = cond_both b _ _ (λ (x : Drive). x ≡ D.Floating) (λ e. refl) (λ e. refl)
 
 pub and_fades : {s t u : Sensor} → Fades s t → Fades t u → Fades s u
 and_fades {s} {t} {u} p q =

@@ -2,7 +2,7 @@
 use Prim.Native.Nat.{ℕ, zero, suc, ◌+◌, ◌-◌, ◌*◌, ◌/◌, ◌%◌, ◌^◌, ◌≤◌, ◌<◌, min}
 use Rattle.std.proofs.Common.{add-zero, le_trans, mod-eq_of_lt, arith, sym, ◌∙◌, lit<}
 use Rattle.std.proofs.Math.Nat.{le_refl, le-add_right, min-le_left, mod-le}
-use Rattle.std.specs.Prelude.{◌≡◌, Bool, ◌&&◌, List, ℤ, Option, Some, None}
+use Rattle.std.specs.Prelude.{◌≡◌, Bool, List, ℤ}
 use Rattle.std.proofs.Math.Path.{ap, subst}
 use Rattle.std.proofs.Math.Dec.{eqb}
 use Rattle.std.proofs.lemmas.Bool.{cond_both}
@@ -25,6 +25,7 @@ use Rattle.sampling.specs.Phase as Phase
 use Rattle.sampling.specs.Stage as Stage
 use Rattle.samples.specs.Samples.{limit}
 use Rattle.effects.specs.Onward.{Upto}
+use Rattle.effects.specs.Theorems.Phases.{sample_kept}
 
 -- orders of naturals
 not_after : (a l n : ℕ) → a < l → l ≤ n + 1 → a ≤ n
@@ -103,14 +104,6 @@ module _ (now : Time) where
   further k n = record { start = k.start; ordinal = k.ordinal + n }
 
   module _ (input : Input) (needs : List ℕ) where
-    observed_stands : {k : Clock} (c : Acquisition) → Stands k c → Stands k (Phase.observed c needs)
-    unfolding Phase.observed
-    observed_stands {k} c h = cond_both (Phase.observing c.registers c.sampling) _ _ (Stands k) (λ e. record { clock = h.clock; upto = h.upto }) (λ e. h)
-
-    scanned_stands : {k : Clock} (c : Acquisition) (axis : ℕ) → Stands k c → Stands k (Phase.scanned c axis needs)
-    unfolding Phase.scanned
-    scanned_stands {k} c axis h = cond_both (eqb axis 2) _ _ (Stands k) (λ e. observed_stands (Phase.counted c) (record { clock = h.clock; upto = h.upto })) (λ e. h)
-
     -- the sampled axis advances to the clock's last edge
     measured_stands : {k : Clock} (c : Acquisition) (axis : ℕ) → ticks (C.last k) ≤ ticks now → Stands k c → Stands k (Phase.measured c input axis)
     measured_stands c axis p h =
@@ -120,26 +113,14 @@ module _ (now : Time) where
           upto = with_axis_upto c.sampling.analog axis (Phase.lagged c input axis) h.upto (advanced_by (A.axis_of c.sampling.analog axis) (C.last c.sampling.clock) (Phase.axis_input input axis) l);
         }
 
-    axis_stands : {k : Clock} (t : Option ℕ) (c : Acquisition) (phase : ℕ) → ticks (C.last k) ≤ ticks now → Stands k c → Stands k (Phase.axis_phase t c input phase needs)
-    unfolding Phase.axis_phase
-    axis_stands None c phase p h = scanned_stands (Phase.measured c input (phase - 1)) (phase - 1) (measured_stands c (phase - 1) p h)
-    axis_stands {k} (Some left) c phase p h = cond_both (eqb phase 3 && eqb left 0) _ _ (Stands k) (λ e. record { clock = h.clock; upto = h.upto }) (λ e. h)
-
-    phase_stands : {k : Clock} (c : Acquisition) → ticks (C.last k) ≤ ticks now → Stands k c → Stands k (Phase.sample_phase c input needs)
-    unfolding Phase.sample_phase
-    phase_stands {k} c p h =
-        cond_both (eqb (Phase.phase_of c.sampling.clock.ordinal) 0) _ _ (Stands k)
-        (λ e. record { clock = h.clock; upto = h.upto })
-        (λ e. axis_stands (Phase.test_counted c.sampling.test) _ (Phase.phase_of c.sampling.clock.ordinal) p (record { clock = h.clock; upto = h.upto }))
-
-    ticked_stands : {k : Clock} (c : Acquisition) → Stands k c → Stands k (Phase.ticked c)
-    unfolding Phase.ticked
-    ticked_stands {k} c h = cond_both (Phase.ticks_now c) _ _ (Stands k) (λ e. record { clock = h.clock; upto = h.upto }) (λ e. h)
-
     -- one edge that is not ahead
     pub sample_stands : {k : Clock} (c : Acquisition) → ticks (C.next k) ≤ ticks now → Stands k c → Stands (C.advanced k 1) (Phase.sample input needs c)
-    unfolding Phase.sample
-    sample_stands c p h = ticked_stands _ (phase_stands (Phase.advanced c) p (record { clock = ap (λ (x : Clock). C.advanced x 1) h.clock; upto = h.upto }))
+    sample_stands {k} c p h =
+        sample_kept (Stands (C.advanced k 1))
+        (λ d i e. record { clock = e.clock; upto = e.upto }) (λ d e. record { clock = e.clock; upto = e.upto }) input needs
+        (λ d e. record { clock = e.clock; upto = e.upto }) (λ d e. record { clock = e.clock; upto = e.upto })
+        (λ d axis small e. measured_stands d axis p e) (λ d e. record { clock = e.clock; upto = e.upto })
+        c (record { clock = ap (λ (x : Clock). C.advanced x 1) h.clock; upto = h.upto })
 
     -- the clock one edge further, where the number of that edge fits 64 bits
     next_edge : (k : Clock) (n : ℕ) → k.ordinal + suc n < 2 ^ 64 → C.advanced (further k n) 1 ≡ further k (suc n)
