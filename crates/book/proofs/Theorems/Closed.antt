@@ -123,7 +123,7 @@ closing : (image : List ℕ) (k : Book) (w : Wrote) (l : List Wrote) (f : Fate) 
 unfolding held
 closing image k w l f e n h =
     record {
-      size = cell_length k.cells w.address value h.size;
+      size = cell_length _ _ _ h.size;
       running = sym (runs_later (with_fate w f) l n ∙ h.proper.1);
       cells = λ a. go a (eqb w.address a) refl;
       proper = h.proper;
