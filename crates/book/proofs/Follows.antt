@@ -6,6 +6,7 @@ use mathlib.Core.Path.{◌≡◌, refl, sym, ap, ◌∙◌}
 use mathlib.Core.Bool.{Bool, true, false, cond}
 use mathlib.Core.List.{List, [], ◌∷◌}
 use lib.Dec.{ltb, eqb}
+use Rattle.std.proofs.lemmas.Bool.{cond_both}
 use Rattle.time.specs.declared.Time.{Time}
 use Rattle.time.specs.Time.{same}
 use Rattle.nv.specs.Cycle as Cycle
@@ -14,7 +15,6 @@ use Rattle.i2c.specs.declared.types.Edge.{Edge}
 use Rattle.i2c.specs.Bus.{data_moves, edge, is_start}
 use Rattle.calls.specs.declared.types.Timed.{Timed}
 use Rattle.calls.specs.declared.types.Call.{Call}
-use Rattle.calls.specs.Table as T
 use Rattle.calls.proofs.Theorems.Found.{never}
 use Rattle.calls.proofs.Theorems.Exactly.{follows_on}
 use Rattle.sensor.specs.declared.types.Kept.{Kept}
@@ -25,21 +25,16 @@ use Rattle.sensor.specs.Image.{new_kept}
 use Rattle.sensor.specs.Select.{may_select}
 use Rattle.samples.specs.Samples.{interaction_deadline, sync_local_until}
 use Rattle.bma150.specs.declared.host.Bma150.{Bma150}
-use Rattle.bma150.specs.Called.{effect, leaves, after_start, start_number}
+use Rattle.bma150.specs.Called.{effect, leaves}
 use Rattle.book.specs.Does.{at_rise, at_pins, with_acceleration, timed_does, does}
 use Rattle.book.specs.Lists.{accepts, step, Start, started, after, accepted, last_kept, kept}
 use Rattle.book.specs.Follows.{timed_levels, call_levels, last_levels, both_high, lines, Follows}
-use Rattle.book.proofs.Call.{after_call}
+use Rattle.book.proofs.Call.{after_call, at_start}
 use Rattle.book.proofs.Keeps.{Core, core, then, select_core, sync_keeps, rise_synced_keeps, pins_synced_keeps, falling_keeps}
 use Rattle.book.proofs.Pins.{rising_keeps, pins_keeps}
 use Rattle.book.proofs.Parts.{ended, due_is, cut_to, low_to, ok_to, supply_to, supply_is}
 
 -- ---- what is kept after one call
-
--- both ways of a choice have the same of something
-either : {A B : Type 0} (f : A → B) (b : Bool) (x y : A) (z : B) → f x ≡ z → f y ≡ z → f (cond b x y) ≡ z
-either f true x y z p q = p
-either f false x y z p q = q
 
 abbrev kept_of : Core → Kept
 kept_of k = k.kept
@@ -48,7 +43,7 @@ kept_of k = k.kept
 ended_kept : (op : Operation) (k : Core) (now : Time) → (ended op k now).kept ≡ k.kept
 unfolding ended
 ended_kept None k now = refl
-ended_kept (Some w) k now = either kept_of (same (Cycle.deadline w.cycle) now) _ _ _ refl refl
+ended_kept (Some w) k now = cond_both (same (Cycle.deadline w.cycle) now) _ _ (λ (x : Core). x.kept ≡ k.kept) (λ e. refl) (λ e. refl)
 
 cut_kept : (op : Operation) (k : Core) (now : Time) → (cut_to op k now).kept ≡ k.kept
 unfolding cut_to
@@ -58,15 +53,15 @@ cut_kept (Some w) k now = refl
 low_kept : (o : Option Outage) (k : Core) (zero : Bool) (now : Time) → (low_to o k zero now).kept ≡ k.kept
 unfolding low_to
 low_kept None k zero now = cut_kept k.writing k now
-low_kept (Some o) k zero now = either kept_of zero _ _ _ refl refl
+low_kept (Some o) k zero now = cond_both zero _ _ (λ (x : Core). x.kept ≡ k.kept) (λ e. refl) (λ e. refl)
 
 ok_kept : (o : Option Outage) (k : Core) → (ok_to o k).kept ≡ k.kept
 unfolding ok_to
 ok_kept None k = refl
-ok_kept (Some o) k = either kept_of o.cold _ _ _ refl refl
+ok_kept (Some o) k = cond_both o.cold _ _ (λ (x : Core). x.kept ≡ k.kept) (λ e. refl) (λ e. refl)
 
 supply_kept : (k : Core) (rail : ℕ) (now : Time) → (supply_to k rail now).kept ≡ k.kept
-supply_kept k rail now = either kept_of (ltb rail 2400) _ _ _ (low_kept k.outage k (eqb rail 0) now) (ok_kept k.outage k)
+supply_kept k rail now = cond_both (ltb rail 2400) _ _ (λ (x : Core). x.kept ≡ k.kept) (λ e. low_kept k.outage k (eqb rail 0) now) (λ e. ok_kept k.outage k)
 
 timed_kept : (s : Sensor) (now : Time) (t : Timed) → (effect (sync_local_until s now false) now t).sensor.kept ≡ (timed_does now t).keeps s.kept
 unfolding effect timed_does
@@ -114,8 +109,7 @@ after_kept s (c ∷ cs) = after_kept (step s c) cs ∙ go (accepts s c) (step_ke
     go false e = ap (λ (k : Kept). last_kept k more) e
 
 pub started_kept : (b : Start) → (started b).sensor.kept ≡ new_kept
-unfolding after_start T.unless_refused
-started_kept b = either (λ (x : Bma150). x.sensor.kept) (eqb (start_number b.by b.time b.image) 0) _ _ _ refl refl
+started_kept b = at_start (λ x. x.sensor.kept ≡ new_kept) b (λ e. refl) refl
 
 -- what the sensor of a run keeps is the fold over its accepted calls
 pub kept_follows : (b : Start) (cs : List Call) → (after (started b) cs).sensor.kept ≡ kept b cs

@@ -5,6 +5,7 @@ use Prim.Native.Nat.{ℕ}
 use mathlib.Core.Path.{◌≡◌, refl, ap, ◌∙◌}
 use mathlib.Core.Bool.{Bool, true, false, cond, not, ◌&&◌}
 use mathlib.Core.List.{List}
+use Rattle.std.proofs.lemmas.Bool.{cond_both}
 use Rattle.time.specs.declared.Time.{Time}
 use Rattle.i2c.specs.declared.types.Edge.{Edge}
 use Rattle.spi.specs.declared.types.Serial.{Serial}
@@ -15,7 +16,6 @@ use Rattle.control.specs.declared.types.Effect.{Effect}
 use Rattle.sensor.specs.declared.types.Kept.{Kept}
 use Rattle.sensor.specs.declared.types.Outage.{Outage}
 use Rattle.sensor.specs.declared.types.Sensor.{Sensor}
-use Rattle.deadlines.specs.Deadlines.{is_at}
 use Rattle.registers.specs.Map.{at}
 use Rattle.spi.specs.Frame as F
 use Rattle.sensor.specs.Record.{with_frame, is_off, serial_not_ready}
@@ -52,10 +52,6 @@ pub record Keeps (s t : Sensor) : Type 0 where
 
 pub then : {s t u : Sensor} → Keeps s t → Keeps t u → Keeps s u
 then p q = record { same = q.same ∙ p.same }
-
-pick : {s t u : Sensor} (b : Bool) → Keeps s t → Keeps s u → Keeps s (cond b t u)
-pick true p q = p
-pick false p q = q
 
 pub itself : (s : Sensor) → Keeps s s
 itself s = record { same = refl }
@@ -129,15 +125,12 @@ pub falling_keeps : (s : Sensor) (now : Time) → Keeps s (falling_at s now)
 unfolding falling_effect
 falling_keeps s now =
     let t = fall_synced s now in
-    then (of (E.fall_synced_keeps s now)) (pick (not (serial_not_ready t) && not (is_off t)) (shift_keeps t _) (itself t))
+    then (of (E.fall_synced_keeps s now)) (cond_both (not (serial_not_ready t) && not (is_off t)) _ _ (Keeps t) (λ e. shift_keeps t _) (λ e. itself t))
 
 -- ---- the steps of a due call but the end of a write
 
 pub waits_keeps : (s : Sensor) (now : Time) → Keeps s (pause_ended (waits_ended s now) now)
-unfolding pause_ended
-waits_keeps s now =
-    let t = waits_ended s now in
-    then {t = t} (record { same = refl }) (pick (is_at t.deadlines.pause now) (record { same = refl }) (itself t))
+waits_keeps s now = then {t = waits_ended s now} (record { same = refl }) (of (E.pause_ended_keeps (waits_ended s now) now))
 
 pub scalars_keeps : (s : Sensor) (now : Time) (was hold : Bool) → Keeps s (sample_served (wake_ended (image_ended s now) now) now was hold)
 scalars_keeps s now was hold = of (E.scalars_keeps s now was hold)

@@ -1,6 +1,5 @@
 -- Demand 3 over the definitions: by induction over the list of calls.
 use Prim.Native.Nat.{ℕ}
-use native.Mathlib.Omega.{arith}
 use native.Mathlib.Nat.{le_refl}
 use mathlib.Core.Path.{◌≡◌, refl, sym, ap, subst, ◌∙◌}
 use mathlib.Core.Bool.{Bool, true, false, cond}
@@ -19,7 +18,7 @@ use Rattle.sensor.specs.declared.types.Sensor.{Sensor}
 use Rattle.sensor.specs.Record.{away, cold_of, is_cold}
 use Rattle.samples.specs.Samples.{sync_local_until}
 use Rattle.sensor.specs.Image.{image_at, powered}
-use Rattle.waits.specs.Supply.{without_report, supply_low, supply_ok, returned, set_supply}
+use Rattle.waits.specs.Supply.{supply_ok, returned, set_supply}
 use Rattle.calls.specs.Facts.{timed_facts, facts}
 use Rattle.calls.specs.Table as T
 use Rattle.calls.proofs.Theorems.Left.{accepted_is, refused_is}
@@ -127,13 +126,11 @@ fresh now cells k = record { sensor = powered now cells k; last = now }
 returns_cold : (u : Sensor) (rail : ℕ) (now : Time) → ltb rail 2400 ≡ false → is_cold u ≡ true
     → (set_supply u rail now).sensor ≡ powered now u.nonvolatile u.kept
 unfolding set_supply supply_ok returned cold_of
-returns_cold u rail now = go (ltb rail 2400) u.outage
+returns_cold u rail now high cold = rw high (go u.outage cold)
   where
-    go : (low : Bool) (o : Option Outage) → low ≡ false → cold_of o ≡ true
-        → (cond low (supply_low o u (eqb rail 0) now) (without_report (supply_ok o u now))).sensor ≡ powered now u.nonvolatile u.kept
-    go true o x y = absurd (let w : ◌≡◌ {A = ℕ} 0 1 = cc in omega arith)
-    go false None x y = absurd (let w : ◌≡◌ {A = ℕ} 0 1 = cc in omega arith)
-    go false (Some o) x y = rw y
+    go : (o : Option Outage) → cold_of o ≡ true → supply_ok o u now ≡ powered now u.nonvolatile u.kept
+    go None e = cc
+    go (Some o) e = rw e
 
 -- the stored-image call at that time hands out the bytes
 hands_out : (now : Time) (cells : List ℕ) (k : Kept) → T.late now ≡ false → (called (fresh now cells k) (Call.StoredImage now 19)).adds ≡ Added.put cells

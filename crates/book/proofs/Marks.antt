@@ -1,24 +1,20 @@
 -- Marks over every list: by induction over the calls.
 use mathlib.Core.Path.{◌≡◌, refl}
-use mathlib.Core.Bool.{Bool, true, false, cond}
 use mathlib.Core.List.{List, [], ◌∷◌}
-use lib.Dec.{eqb}
 use lib.ListN.{length}
 use Rattle.time.specs.Time.{time}
 use Rattle.calls.specs.declared.types.Call.{Call}
-use Rattle.calls.specs.Table as T
 use Rattle.calls.proofs.Theorems.Left.{start_length}
 use Rattle.sensor.specs.Image.{stock, reset_registers}
 use Rattle.bma150.specs.declared.host.Bma150.{Bma150}
-use Rattle.bma150.specs.Called as Called
-use Rattle.bma150.specs.Called.{leaves, measurement_of, after_start, start_number}
+use Rattle.bma150.specs.Called.{measurement_of}
 use Rattle.effects.specs.Marks.{Sized, Emptied, Course}
 use Rattle.effects.specs.Theorems.Sizes.{copied_length}
 use Rattle.effects.specs.Theorems.Marks as M
 use Rattle.effects.specs.Theorems.Course.{Marked, joined, course, shows}
 use Rattle.book.specs.Lists.{step, Start, started, after}
 use Rattle.book.specs.Marks.{MarkedRuns}
-use Rattle.book.proofs.Call.{after_call}
+use Rattle.book.proofs.Call.{after_call, at_start}
 use Rattle.book.proofs.Walk.{leaves_meets}
 
 -- ---- one call
@@ -39,15 +35,11 @@ after_marked s (c ∷ cs) h =
 -- ---- from a start, accepted or not
 
 fresh : (b : Start) → Sized (started b).sensor × Emptied (started b).sensor
-unfolding after_start T.unless_refused
-fresh b = go (eqb (start_number b.by b.time b.image) 0) refl
-  where
-    go : (a : Bool) → eqb (start_number b.by b.time b.image) 0 ≡ a
-        → Sized (cond a (Called.started b.time b.image) (Called.started (time 0) stock)).sensor × Emptied (cond a (Called.started b.time b.image) (Called.started (time 0) stock)).sensor
-    go true e =
-        let n : length b.image ≡ 19 = start_length b.by b.time (length b.image) (measurement_of b.image) e in
-        (record { registers = copied_length reset_registers b.image refl n; stored = n; marks = refl }, (M.marks).start_single b.time b.image)
-    go false e = (record { registers = refl; stored = refl; marks = refl }, (M.marks).start_single (time 0) stock)
+fresh b =
+    at_start (λ x. Sized x.sensor × Emptied x.sensor) b
+    (λ e. let n : length b.image ≡ 19 = start_length b.by b.time (length b.image) (measurement_of b.image) e in
+    (record { registers = copied_length reset_registers b.image refl n; stored = n; marks = refl }, (M.marks).start_single b.time b.image))
+    (record { registers = refl; stored = refl; marks = refl }, (M.marks).start_single (time 0) stock)
 
 pub marked_runs : MarkedRuns
 marked_runs = record {

@@ -4,9 +4,8 @@ use Prim.Native.Nat.{◌≤◌}
 use native.Mathlib.Nat.{le_trans}
 use native.Mathlib.Omega.{arith}
 use mathlib.Core.Path.{◌≡◌, refl, sym, ap, ◌∙◌}
-use mathlib.Core.Bool.{Bool, true, false, cond}
+use mathlib.Core.Bool.{true}
 use mathlib.Core.List.{List, [], ◌∷◌}
-use lib.Dec.{eqb}
 use borrow.Author.Tests.{ltb-false}
 use Rattle.time.specs.declared.Time.{Time}
 use Rattle.time.specs.Time.{ticks, time}
@@ -16,18 +15,16 @@ use Rattle.calls.specs.declared.types.Call.{Call}
 use Rattle.calls.specs.Facts.{timed_facts, facts}
 use Rattle.calls.specs.Table as T
 use Rattle.calls.proofs.Theorems.Left.{clear}
-use Rattle.sensor.specs.Image.{stock}
 use Rattle.samples.specs.Samples.{interaction_deadline}
 use Rattle.bma150.specs.declared.host.Bma150.{Bma150}
-use Rattle.bma150.specs.Called as Called
-use Rattle.bma150.specs.Called.{leaves, after_start, start_number}
+use Rattle.bma150.specs.Called.{leaves}
 use Rattle.effects.specs.Onward as E
 use Rattle.effects.specs.Onward.{Upto}
 use Rattle.effects.specs.Theorems.Stage.{rest_upto}
 use Rattle.effects.specs.Theorems.Onward as Steps
 use Rattle.book.specs.Lists.{accepts, step, Start, started, after}
 use Rattle.book.specs.Onward.{NotAhead, Onward}
-use Rattle.book.proofs.Call.{after_call}
+use Rattle.book.proofs.Call.{after_call, at_start}
 use Rattle.book.proofs.Walk.{leaves_meets}
 
 -- no axis is after the last accepted time
@@ -79,12 +76,7 @@ after_stands s (c ∷ cs) h = after_stands (step s c) cs (step_stands s c h)
 
 -- a start rests at its time, a refused one at 0
 started_stands : (b : Start) → Stands (started b)
-unfolding after_start T.unless_refused
-started_stands b = go (eqb (start_number b.by b.time b.image) 0)
-  where
-    go : (a : Bool) → Stands (cond a (Called.started b.time b.image) (Called.started (time 0) stock))
-    go true = rest_upto b.time
-    go false = rest_upto (time 0)
+started_stands b = at_start Stands b (λ e. rest_upto b.time) (rest_upto (time 0))
 
 not_ahead : (b : Start) (cs : List Call) → NotAhead (after (started b) cs)
 not_ahead b cs = let h = after_stands (started b) cs (started_stands b) in record { x = h.x; y = h.y; z = h.z }

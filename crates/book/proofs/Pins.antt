@@ -1,10 +1,11 @@
 -- A pin call changes the running write alone of the five parts, and as the book says.
 use Rattle.std.specs.Prelude.{Option, Some, None}
 use Rattle.sensor.specs.Operation.{Operation, stored_write}
-use Prim.Native.Nat.{ℕ, ◌%◌}
+use Prim.Native.Nat.{ℕ}
 use mathlib.Core.Path.{◌≡◌, refl, sym, ap, subst, ◌∙◌}
 use mathlib.Core.Bool.{Bool, true, false, cond, not, ◌&&◌}
 use lib.Dec.{ltb}
+use Rattle.std.proofs.lemmas.Bool.{cond_both}
 use native.Mathlib.Omega.{arith}
 use Rattle.time.specs.declared.Time.{Time}
 use Rattle.laws.specs.Bytes.{shifted_in}
@@ -15,13 +16,14 @@ use Rattle.i2c.specs.Engine as E
 use Rattle.spi.specs.declared.types.Serial.{Serial}
 use Rattle.spi.specs.declared.types.Frame.{Frame}
 use Rattle.spi.specs.declared.types.Clocked.{Clocked}
+use Rattle.spi.specs.declared.types.Taken.{Taken}
 use Rattle.spi.specs.Frame as F
 use Rattle.control.specs.declared.types.WriteKind.{WriteKind}
 use Rattle.control.specs.Theorems.Begins.{is_stored, stored_begins}
 use Rattle.sensor.specs.declared.types.Sensor.{Sensor}
 use Rattle.sensor.specs.Record.{with_writing, with_frame, with_i2c, is_quiet, gate, is_writing, four_wire}
 use Rattle.writes.specs.Write.{write_effect, write_kind, write_register}
-use Rattle.sensor.specs.RegisterReads.{peek, counts_as_read, acceleration_read, byte_read, read_began}
+use Rattle.sensor.specs.RegisterReads.{peek, counts_as_read, byte_read, read_began}
 use Rattle.serial.specs.SpiEdges.{first_bit_taken, write_done, bit_done, bit_taken, turned, shift_output, spi_listens, rising_effect}
 use Rattle.serial.specs.I2cPins.{acted, stepped, ones_for, i2c_listens, i2c_pins}
 use Rattle.book.specs.Does.{spi_write, action_write, i2c_write}
@@ -55,25 +57,17 @@ take_selected : (f : Frame) (mosi four : Bool) → (F.take_bit f mosi four).fram
 unfolding F.take_bit F.completed F.addressed
 take_selected f mosi four = go (ltb f.rx_bits 7) f.serial
   where
-    address : (b : Bool) (x y : Frame) → x.selected ≡ f.selected → y.selected ≡ f.selected → (cond b x y).selected ≡ f.selected
-    address true x y p q = p
-    address false x y p q = q
-
     go : (b : Bool) (x : Serial) → (cond b (record { frame = F.bit_taken f mosi; write = None }) (F.completed x f (shifted_in f.rx mosi) four)).frame.selected ≡ f.selected
     go true x = refl
     go false Serial.Address =
         let byte = shifted_in f.rx mosi in
-        address (ltb byte 128) (F.next_byte f (Serial.Write byte)) (F.next_read f (byte % 128) (not four)) refl refl
+        cond_both (ltb byte 128) _ _ (λ (x : Frame). x.selected ≡ f.selected) (λ e. refl) (λ e. refl)
     go false (Serial.Read a) = refl
     go false (Serial.Write a) = refl
 
 read_writes_nothing : (f : Frame) (mosi four : Bool) (a : ℕ) → f.serial ≡ Serial.Read a → (F.take_bit f mosi four).write ≡ None
 unfolding F.take_bit F.completed
-read_writes_nothing f mosi four a e = go (ltb f.rx_bits 7)
-  where
-    go : (b : Bool) → (cond b (record { frame = F.bit_taken f mosi; write = None }) (F.completed f.serial f (shifted_in f.rx mosi) four)).write ≡ None
-    go true = refl
-    go false = rw e refl
+read_writes_nothing f mosi four a e = cond_both (ltb f.rx_bits 7) _ _ (λ (x : Taken). x.write ≡ None) (λ p. refl) (λ p. rw e refl)
 
 -- only a read is noted
 acknowledges_read : (x : Serial) (n a : ℕ) → F.first_bit x n ≡ Some a → (b : ℕ) × (x ≡ Serial.Read b)
@@ -100,11 +94,7 @@ bit_keeps t mosi now =
 noted_frame : (x : Option ℕ) (s : Sensor) (a : ℕ) → (byte_read x s a).frame ≡ s.frame
 unfolding byte_read
 noted_frame None s a = refl
-noted_frame (Some b) s a = go (counts_as_read s a)
-  where
-    go : (t : Bool) → (cond t (acceleration_read s a b) s).frame ≡ s.frame
-    go true = refl
-    go false = refl
+noted_frame (Some b) s a = cond_both (counts_as_read s a) _ _ (λ (x : Sensor). x.frame ≡ s.frame) (λ e. refl) (λ e. refl)
 
 -- no write begins where nothing is written
 nothing_begun : (w : Option (ℕ × ℕ)) (s : Sensor) (now : Time) → w ≡ None → begun_writing w s now ≡ s.writing

@@ -7,11 +7,12 @@ use Prim.Native.Nat.{ℕ, ◌+◌, ◌*◌, ◌^◌, ◌≤◌, ◌<◌}
 use native.Mathlib.Omega.{arith}
 use native.Mathlib.Nat.{le_antisymm}
 use mathlib.Core.Path.{◌≡◌, refl, sym, ap, subst, ◌∙◌}
-use mathlib.Core.Bool.{Bool, true, false, cond, not}
+use mathlib.Core.Bool.{Bool, true, false, cond}
 use mathlib.Core.List.{[], ◌∷◌, Memᴰ}
 use lib.Dec.{leb, eqb, lit≤}
 use lib.Arith.{digits_lt}
-use borrow.Author.Tests.{leb-true, leb-false, lt-leb, le-leb, eqb-true, eq-eqb}
+use borrow.Author.Tests.{leb-true, leb-false, lt-leb, le-leb, eqb-true}
+use Rattle.std.proofs.lemmas.Bool.{eqb-false, not-false, false_from_ne_true}
 use Rattle.time.specs.declared.Time.{Time}
 use Rattle.analog.specs.Axis.{Acceleration}
 use Rattle.time.specs.Time.{ticks, same}
@@ -82,12 +83,8 @@ pub record Sound (k : Core) : Type 0 where
 ends_by : (s : Sensor) (w : StoredWrite) → s.writing ≡ Some w → is_off s ≡ false
     → is_by (interaction_deadline s) (Cycle.deadline w.cycle) ≡ true
 unfolding next_deadline write_end
-ends_by s w e o = go (is_off s) (earliest s.deadlines (sample_due s (automatic s)) (write_end s.writing)) o p
+ends_by s w e o = rw o p
   where
-    go : (b : Bool) (d : Option Time) → b ≡ false → is_by d (Cycle.deadline w.cycle) ≡ true → is_by (cond b None d) (Cycle.deadline w.cycle) ≡ true
-    go true d q r = cc
-    go false d q r = r
-
     m : Memᴰ (Some (Cycle.deadline w.cycle)) (s.deadlines.serial_ready ∷ sample_due s (automatic s) ∷ s.deadlines.wake ∷ s.deadlines.pause ∷ s.deadlines.quiet ∷ s.deadlines.irq_hold ∷ Some (Cycle.deadline w.cycle) ∷ s.deadlines.image ∷ [])
     m = Memᴰ.tail (Memᴰ.tail (Memᴰ.tail (Memᴰ.tail (Memᴰ.tail (Memᴰ.tail (Memᴰ.head refl))))))
 
@@ -131,11 +128,7 @@ last_moment e n p = go (eqb e n) refl
   where
     go : (b : Bool) → eqb e n ≡ b → leb e n ≡ b
     go true q = le-leb e n (omega (arith, eqb-true e n q))
-    go false q = not_le (leb e n) refl
-      where
-        not_le : (b : Bool) → leb e n ≡ b → b ≡ false
-        not_le true r = let z : eqb e n ≡ true = eq-eqb e n (le_antisymm (leb-true e n r) p) in cc
-        not_le false r = refl
+    go false q = false_from_ne_true (leb e n) (λ r. eqb-false e n q (le_antisymm (leb-true e n r) p))
 
 pub over_now : (s : Sensor) → Sound (core s) → (now : Time) → is_at (interaction_deadline s) now ≡ true
     → (w : StoredWrite) → s.writing ≡ Some w
@@ -175,8 +168,4 @@ module _ (last : Time) (s : Sensor) (now : Time) (c : Call) (p : eqb (T.refusal 
   unfolding T.beside_due T.due_at
   due_now e =
       let q = clear last (interaction_deadline s) s.kept.lines c p in
-      go (is_at (interaction_deadline s) now) (sym (ap (λ (f : Facts). T.beside_due (interaction_deadline s) f.kind f.time) e) ∙ q.1.1.1.1.1.1.0)
-    where
-      go : (b : Bool) → not b ≡ false → b ≡ true
-      go true r = refl
-      go false r = sym r
+      not-false (is_at (interaction_deadline s) now) (sym (ap (λ (f : Facts). T.beside_due (interaction_deadline s) f.kind f.time) e) ∙ q.1.1.1.1.1.1.0)

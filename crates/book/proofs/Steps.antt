@@ -9,6 +9,7 @@ use lib.Dec.{leb, ltb, eqb}
 use Rattle.samples.specs.Samples.{sync_local_until}
 use Rattle.sensor.specs.declared.types.Sensor.{Sensor}
 use borrow.Author.Tests.{ltb-true, ltb-false, le-leb, lt-leb}
+use Rattle.std.proofs.lemmas.Bool.{false_from_ne_true, both_ways, and_right, not_from_true}
 use Rattle.time.specs.declared.Time.{Time}
 use Rattle.time.specs.Time.{same}
 use Rattle.analog.specs.Axis.{Acceleration}
@@ -243,11 +244,8 @@ module _ (b : Bma150) (h : Sound (core b.sensor)) where
       go false f = cc
 
   spi_live : (u : Sensor) → Keeps s u → (mosi : Bool) (a v : ℕ) → spi_write u mosi ≡ Some (a, v) → is_off s ≡ false
-  spi_live u k mosi a v e = go (is_off s) refl
-    where
-      go : (b : Bool) → is_off s ≡ b → b ≡ false
-      go true o = let g : s.frame.selected ≡ false = h.deaf o in let f : s.frame.selected ≡ true = sym (ap (λ (x : Core). x.selected) k.same) ∙ spi_selected u mosi a v e in cc
-      go false o = refl
+  spi_live u k mosi a v e =
+      false_from_ne_true (is_off s) (λ o. both_ways s.frame.selected (h.deaf o) (sym (ap (λ (x : Core). x.selected) k.same) ∙ spi_selected u mosi a v e))
 
   i2c_live : (u : Sensor) → Keeps s u → (x : Edge) (a v : ℕ) → i2c_write u x ≡ Some (a, v) → is_off s ≡ false
   unfolding i2c_write i2c_listens
@@ -302,15 +300,6 @@ module _ (b : Bma150) (h : Sound (core b.sensor)) where
   moved (Call.Temperature x) d p = record { cells = refl; running = refl; sound = record { fine = h.fine; deaf = h.deaf }; zero = refl; kept = refl }
   moved (Call.Select on) d p =
       subst (λ (l : Core). Moved (core s) l (does (Call.Select on)) (read b)) (sym (select_core s (may_select s on)))
-      (record { cells = refl; running = refl; sound = record { fine = h.fine; deaf = deaf }; zero = refl; kept = refl })
-    where
-      none_selected : (a out : Bool) → out ≡ true → (a && not out) ≡ false
-      none_selected true true e = refl
-      none_selected false true e = refl
-      none_selected true false e = cc
-      none_selected false false e = refl
-
-      deaf : is_off s ≡ true → may_select s on ≡ false
-      deaf e = none_selected on (is_off s) e
+      (record { cells = refl; running = refl; sound = record { fine = h.fine; deaf = λ e. and_right on (not (is_off s)) (not_from_true (is_off s) e) }; zero = refl; kept = refl })
   moved (Call.View address) d p = record { cells = refl; running = refl; sound = h; zero = refl; kept = refl }
   moved (Call.StoredImage now length) d p = record { cells = refl; running = refl; sound = h; zero = refl; kept = refl }

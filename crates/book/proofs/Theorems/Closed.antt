@@ -1,13 +1,12 @@
 -- The book's cells are their closed form, for every accepted start and every list of calls.
 use Rattle.std.specs.Prelude.{ℕ, zero, suc, ◌+◌, ◌-◌, ◌≤◌, ◌<◌, ◌≡◌, refl, Bool, true, false, not, ◌&&◌, leb, ltb, length, get_or, set, Option, Some, None}
-use Rattle.std.proofs.Common.{arith, le_of_suc-le-suc, add-zero, not-suc-le-zero, sym, subst, ◌∙◌, length-set, get_or-set_same, get_or-set_other, ext_get_or, leb-true, le-leb, eqb-true}
+use Rattle.std.proofs.Common.{arith, le_of_suc-le-suc, add-zero, not-suc-le-zero, sym, subst, ◌∙◌, get_or-set_same, get_or-set_other, ext_get_or, leb-true, le-leb, eqb-true}
 use Rattle.std.proofs.Math.Path.{ap}
-use Rattle.std.proofs.Math.Bool.{cond}
+use Rattle.std.proofs.Math.Bool.{cond, and-false}
 use mathlib.Core.List.{List, [], ◌∷◌, map}
 use Rattle.std.proofs.Math.Dec.{eqb}
 use Rattle.std.proofs.lemmas.List.{length-map}
-use Rattle.std.proofs.lemmas.Bool.{eqb-false}
-use Rattle.laws.specs.Bools.{and_left, and_right}
+use Rattle.std.proofs.lemmas.Bool.{eqb-false, not-true, and_parts, cond_both}
 use Rattle.time.specs.declared.Time.{Time}
 use Rattle.time.specs.Time.{ticks}
 use Rattle.nv.specs.Cell.{write_length}
@@ -20,6 +19,7 @@ use Rattle.sensor.specs.Record.{gate}
 use Rattle.sensor.specs.Image.{cell_byte, with_cell}
 use Rattle.bma150.specs.declared.host.Bma150.{Bma150}
 use Rattle.bma150.specs.Called.{start_number}
+use Rattle.effects.specs.Theorems.Sizes.{cell_length}
 use Rattle.book.specs.Does.{Asked, does}
 use Rattle.book.specs.Lists.{Start, accepts, step}
 use Rattle.book.specs.Book.{Running, Book, book, with_rest, struck, opened, filled, closed, completing, completed, cutting, supplied, runs, accepted_write, of_write, began, changed_at, changed, entered, booked}
@@ -27,21 +27,13 @@ use Rattle.book.specs.Closed.{Entry, with_entry, entries, Fate, Wrote, with_fate
 
 -- ---- one cell is set
 
-with_cell_length : (image : List ℕ) (a v : ℕ) → length (with_cell image a v) ≡ length image
-unfolding with_cell
-with_cell_length image a v = go (stored a)
-  where
-    go : (b : Bool) → length (cond b (set image (a - 0x2b) v) image) ≡ length image
-    go true = length-set image (a - 0x2b) v
-    go false = refl
-
 first_cell : (a : ℕ) → stored a ≡ true → 0x2b ≤ a
 unfolding stored
-first_cell a e = leb-true 0x2b a (and_left (leb 0x2b a) (leb a 0x3d) e)
+first_cell a e = leb-true 0x2b a (and_parts (leb 0x2b a) (leb a 0x3d) e).0
 
 last_cell : (a : ℕ) → stored a ≡ true → a ≤ 0x3d
 unfolding stored
-last_cell a e = leb-true a 0x3d (and_right (leb 0x2b a) (leb a 0x3d) e)
+last_cell a e = leb-true a 0x3d (and_parts (leb 0x2b a) (leb a 0x3d) e).1
 
 cell_set : (image : List ℕ) (a v : ℕ) → stored a ≡ true → length image ≡ 19 → cell_byte (with_cell image a v) a ≡ v
 unfolding cell_byte with_cell
@@ -69,11 +61,7 @@ stays f over w e = rw e
 
 goes_on : (f : Fate) (w : Wrote) → ended f false w ≡ w
 unfolding ended
-goes_on f w = go (is_running w.fate)
-  where
-    go : (b : Bool) → cond (b && false) (with_fate w f) w ≡ w
-    go true = refl
-    go false = refl
+goes_on f w = rw (and-false (is_running w.fate))
 
 ends : (f : Fate) (w : Wrote) → is_running w.fate ≡ true → ended f true w ≡ with_fate w f
 unfolding ended
@@ -113,11 +101,7 @@ leaves_old (Fate.cut elapsed) old wanted address e = cc
 
 unseen : (image : List ℕ) (w : Wrote) (l : List Wrote) (address : ℕ) → is_running w.fate ≡ true → held image (w ∷ l) address ≡ held image l address
 unfolding held
-unseen image w l address e = go (eqb w.address address)
-  where
-    go : (b : Bool) → cond b (left_by w.fate (held image l address) w.wanted address) (held image l address) ≡ held image l address
-    go true = leaves_old w.fate (held image l address) w.wanted address e
-    go false = refl
+unseen image w l address e = cond_both (eqb w.address address) _ _ (λ (x : ℕ). x ≡ held image l address) (λ p. leaves_old w.fate (held image l address) w.wanted address e) (λ p. refl)
 
 -- ---- book and list agree: the cells and the running write of the one are those of the other
 
@@ -139,7 +123,7 @@ closing : (image : List ℕ) (k : Book) (w : Wrote) (l : List Wrote) (f : Fate) 
 unfolding held
 closing image k w l f e n h =
     record {
-      size = with_cell_length _ _ _ ∙ h.size;
+      size = cell_length _ _ _ h.size;
       running = sym (runs_later (with_fate w f) l n ∙ h.proper.1);
       cells = λ a. go a (eqb w.address a) refl;
       proper = h.proper;
@@ -207,11 +191,8 @@ unfolding supplied cutting is_low left_by is_running
 supplied_agrees image k l None now h =
     over image k (λ w. Fate.cut (ticks now - ticks w.began)) (λ w. false) (λ r. k) refl (λ w. refl) (λ w. refl) l h
 supplied_agrees image k l (Some rail) now h =
-    over image k (λ w. Fate.cut (ticks now - ticks w.began)) (λ w. ltb rail 2400) (λ r. cond (ltb rail 2400) (cutting r k now) k) (idle (ltb rail 2400)) (λ w. refl) (λ w. refl) l h
-  where
-    idle : (b : Bool) → cond b k k ≡ k
-    idle true = refl
-    idle false = refl
+    over image k (λ w. Fate.cut (ticks now - ticks w.began)) (λ w. ltb rail 2400) (λ r. cond (ltb rail 2400) (cutting r k now) k)
+    (cond_both (ltb rail 2400) _ _ (λ (x : Book). x ≡ k) (λ e. refl) (λ e. refl)) (λ w. refl) (λ w. refl) l h
 
 none_runs : (r : Option Running) → runs r ≡ false → r ≡ None
 unfolding runs
@@ -221,12 +202,10 @@ none_runs (Some w) e = cc
 -- a write begins only at an address of 2b..3d and where none runs
 begins_where : (address value : ℕ) (g : Gate) (running : Bool) → begins address value g running ≡ true → (stored address ≡ true) × (running ≡ false)
 unfolding begins
-begins_where address value g running e = go (stored address) running (ignores address value g) e
-  where
-    go : (s r i : Bool) → (s && not r && not i) ≡ true → (s ≡ true) × (r ≡ false)
-    go true true i p = (refl, cc)
-    go true false i p = (refl, refl)
-    go false r i p = (cc, cc)
+begins_where address value g running e =
+    let p = and_parts (stored address && not running) (not (ignores address value g)) e in
+    let q = and_parts (stored address) (not running) p.0 in
+    (q.0, not-true running q.1)
 
 -- it is put in front and leaves every cell
 write_agrees : (image : List ℕ) (k : Book) (l : List Wrote) (address value : ℕ) (now : Time) → Agrees image k l → stored address ≡ true → that_runs l ≡ None

@@ -2,11 +2,11 @@
 use Prim.Native.Nat.{ℕ, zero, suc, ◌/◌, ◌<◌}
 use Rattle.std.proofs.Common.{arith, sym, subst, ◌∙◌, length-append, get_or-set_same, get_or-set_other, get_or-take, length-take-le, leb-false, eqb-true}
 use Rattle.std.proofs.Math.Path.{◌≡◌, refl, ap}
-use Rattle.std.specs.Prelude.{Bool, true, false, cond, ◌⊎◌, leb, eqb, ℤ, set, take, replicate, Option, Some, None}
+use Rattle.std.specs.Prelude.{Bool, true, false, ◌⊎◌, leb, eqb, ℤ, set, take, replicate, Option, Some, None}
 use Rattle.std.proofs.Math.Logic.{inl, inr}
 use mathlib.Core.List.{List, [], ◌∷◌, ◌++◌}
 use Rattle.std.proofs.Math.ListN.{length, get_or, length-set, get_or-append}
-use Rattle.std.proofs.lemmas.Bool.{eqb-false}
+use Rattle.std.proofs.lemmas.Bool.{eqb-false, false_from_ne_true, cond_both}
 use Rattle.laws.specs.Iterate.{iterate}
 use Rattle.time.specs.declared.Time.{Time}
 use Rattle.analog.specs.Axis.{Acceleration}
@@ -34,7 +34,7 @@ use Rattle.control.specs.Kinds as Kinds
 use Rattle.waits.specs.Supply as S
 use Rattle.effects.specs.Walk.{Steps}
 use Rattle.effects.specs.Marks.{Sized, value_in, value, value_of, is_mean, next_phase, converts, Sampled, Passed, Filtered, Emptied, Course, Samples, code_of, Shows}
-use Rattle.effects.specs.Theorems.Phases.{ticked_same, phase_measures, phase_warms, phase_tests}
+use Rattle.effects.specs.Theorems.Phases.{sample_same}
 use Rattle.effects.specs.Theorems.Sizes.{stored_length, cell_length, copied_length}
 use Rattle.effects.specs.Theorems.Marks.{each, value_apart, marks}
 
@@ -69,22 +69,21 @@ puts_at {s} {t} a v far r n m f = record {
   );
 }
 
--- either sampling has the marks and the filter of a third
-either : (b : Bool) (g h k : Sampling) → (g.means ≡ k.means) × (g.filter ≡ k.filter) → (h.means ≡ k.means) × (h.filter ≡ k.filter) → ((cond b g h).means ≡ k.means) × ((cond b g h).filter ≡ k.filter)
-either true g h k p q = p
-either false g h k p q = q
+-- the sampling has the marks and the filter of another
+abbrev Alike : Sampling → Sampling → Type 0
+Alike g h = (h.means ≡ g.means) × (h.filter ≡ g.filter)
 
-held_keeps : (g : Sampling) (now : Time) (input : Input) → ((Stage.held g now input).means ≡ g.means) × ((Stage.held g now input).filter ≡ g.filter)
+held_keeps : (g : Sampling) (now : Time) (input : Input) → Alike g (Stage.held g now input)
 unfolding Stage.held
-held_keeps g now input = either g.asleep g _ g (refl, refl) (refl, refl)
+held_keeps g now input = cond_both g.asleep _ _ (Alike g) (λ e. (refl, refl)) (λ e. (refl, refl))
 
-turned_keeps : (g : Sampling) (now : Time) (old new : Acceleration) → ((Stage.turned g now old new).means ≡ g.means) × ((Stage.turned g now old new).filter ≡ g.filter)
+turned_keeps : (g : Sampling) (now : Time) (old new : Acceleration) → Alike g (Stage.turned g now old new)
 unfolding Stage.turned
-turned_keeps g now old new = either g.asleep g _ g (refl, refl) (refl, refl)
+turned_keeps g now old new = cond_both g.asleep _ _ (Alike g) (λ e. (refl, refl)) (λ e. (refl, refl))
 
-set_keeps : (s : Sensor) (input : Acceleration) (now : Time) → ((S.turned s input now).means ≡ s.sampling.means) × ((S.turned s input now).filter ≡ s.sampling.filter)
+set_keeps : (s : Sensor) (input : Acceleration) (now : Time) → Alike s.sampling (S.turned s input now)
 unfolding S.turned
-set_keeps s input now = either (is_off s) s.sampling _ s.sampling (refl, refl) (turned_keeps s.sampling now s.kept.input.acceleration input)
+set_keeps s input now = cond_both (is_off s) _ _ (Alike s.sampling) (λ e. (refl, refl)) (λ e. turned_keeps s.sampling now s.kept.input.acceleration input)
 
 -- a low byte without its new-data bit shows the same value
 low_same : (l : List ℕ) (i j : ℕ) → get_or (set l i (without_new_data (get_or l i 0))) j 0 / 2 ≡ get_or l j 0 / 2
@@ -126,11 +125,9 @@ unfolding Kinds.kind_of_write ignores unwritable
 ignored_below s address value e = rw e
 
 above : (s : Sensor) (address value : ℕ) (w : WriteKind) → write_kind s address value ≡ w → (WriteKind.Ignored ≡ w → ⊥) → 8 < address
-above s address value w e n = go (leb address 0x09) refl
-  where
-    go : (b : Bool) → leb address 0x09 ≡ b → 8 < address
-    go true q = absurd (n (sym (ignored_below s address value q) ∙ e))
-    go false q = let h = leb-false address 0x09 q in omega (arith, h)
+above s address value w e n =
+    let h = leb-false address 0x09 (false_from_ne_true (leb address 0x09) (λ q. n (sym (ignored_below s address value q) ∙ e))) in
+    omega (arith, h)
 
 -- ---- edges of the sample clock
 
@@ -138,9 +135,6 @@ abbrev size_of : Acquisition → ℕ
 size_of c = length c.registers
 
 module _ (c : Acquisition) (input : Input) (needs : List ℕ) where
-  abbrev d : Acquisition
-  d = Phase.advanced c
-
   abbrev after : Acquisition
   after = Phase.sample input needs c
 
@@ -162,19 +156,10 @@ module _ (c : Acquisition) (input : Input) (needs : List ℕ) where
   an_edge = by_test c.sampling.test refl
 
   -- the registers keep their number
-  size_by_phase : (n : ℕ) → next_phase c ≡ n → c.sampling.test ≡ None → size_of after ≡ size_of c
-  unfolding Phase.sample
-  size_by_phase zero p e = ticked_same size_of (λ k i. refl) (λ k. refl) input needs _ ∙ phase_warms size_of (λ k i. refl) (λ k. refl) input needs d p ∙ length-set c.registers _ _
-  size_by_phase (suc axis) p e =
-      ticked_same size_of (λ k i. refl) (λ k. refl) input needs _ ∙ phase_measures size_of (λ k i. refl) (λ k. refl) input needs d axis p e
-      ∙ length-set (set c.registers _ _) _ _ ∙ length-set c.registers _ _
-
-  size_by_test : (t : Option ℕ) → c.sampling.test ≡ t → size_of after ≡ size_of c
-  unfolding Phase.sample
-  size_by_test None e = size_by_phase (next_phase c) refl e
-  size_by_test (Some left) e =
-      ticked_same size_of (λ k i. refl) (λ k. refl) input needs _
-      ∙ phase_tests size_of (λ k i. refl) (λ k. refl) input needs d left e (length-set c.registers _ _) refl (length-set (set c.registers _ _) _ _ ∙ length-set c.registers _ _)
+  size_same : size_of after ≡ size_of c
+  size_same =
+      sample_same size_of (λ k i. refl) (λ k. refl) input needs (λ k. refl) (λ k. refl) (λ k. length-set k.registers _ _)
+      (λ k axis p. length-set (set k.registers _ _) _ _ ∙ length-set k.registers _ _) (λ k. length-set (set k.registers _ _) _ _ ∙ length-set k.registers _ _) c
 
   marks_size : Edge → length after.sampling.means ≡ length c.sampling.means
   unfolding Edge
@@ -184,7 +169,7 @@ module _ (c : Acquisition) (input : Input) (needs : List ℕ) where
 one_edge : (s : Sensor) → Sized s → Sized (after_edges s 1)
 unfolding iterate
 one_edge s h = record {
-  registers = size_by_test (acquisition s) s.kept.input needs s.sampling.test refl ∙ h.registers;
+  registers = size_same (acquisition s) s.kept.input needs ∙ h.registers;
   stored = h.stored;
   marks = marks_size (acquisition s) s.kept.input needs (an_edge (acquisition s) s.kept.input needs) ∙ h.marks;
 }

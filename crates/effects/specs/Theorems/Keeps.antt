@@ -1,6 +1,7 @@
 -- What samples, reads, waits and ordinary register writes leave as it is.
-use Rattle.std.specs.Prelude.{ℕ, refl, Bool, true, false, cond, not, ◌&&◌, eqb, Option, Some, None}
+use Rattle.std.specs.Prelude.{ℕ, refl, Bool, false, cond, Option, Some, None}
 use Rattle.std.proofs.Common.{◌∙◌}
+use Rattle.std.proofs.lemmas.Bool.{cond_both}
 use Rattle.time.specs.declared.Time.{Time}
 use Rattle.i2c.specs.declared.types.Edge.{Edge}
 use Rattle.control.specs.declared.types.WriteKind.{WriteKind}
@@ -8,54 +9,48 @@ use Rattle.control.specs.declared.types.Effect.{Effect}
 use Rattle.control.specs.declared.types.SelfTest.{SelfTest}
 use Rattle.control.specs.declared.types.Sleep.{Sleep}
 use Rattle.sensor.specs.declared.types.Sensor.{Sensor}
-use Rattle.deadlines.specs.Deadlines.{is_set, is_at}
-use Rattle.control.specs.Automatic.{holds, pauses_again}
+use Rattle.deadlines.specs.Deadlines.{is_at}
 use Rattle.control.specs.Kinds as Kinds
-use Rattle.registers.specs.Map.{at, operation, latch_INT}
-use Rattle.i2c.specs.Engine as E
-use Rattle.spi.specs.Frame as F
-use Rattle.sensor.specs.Record.{is_quiet, four_wire, automatic}
-use Rattle.sensor.specs.Mode.{criterion, may_sleep, pause_restarted, interrupt_held, pause_if_idle, automatic_control}
+use Rattle.sensor.specs.Mode.{automatic_control}
 use Rattle.sensor.specs.Record.{put}
 use Rattle.writes.specs.Write.{recounted, interrupts_reset, interrupts_written, tested, slept, image_written, control_written, mode_written, operation_written, register_effect, then_automatic}
-use Rattle.samples.specs.Samples.{caught_up, samples_on_demand, sync_local_until}
+use Rattle.samples.specs.Samples.{sync_local_until}
 use Rattle.sensor.specs.RegisterReads.{fetched, counts_as_read, byte_read}
-use Rattle.serial.specs.SpiEdges.{spi_listens, rise_synced, fall_synced}
-use Rattle.serial.specs.I2cPins.{i2c_listens, pins_synced}
+use Rattle.serial.specs.SpiEdges.{rise_synced, fall_synced}
+use Rattle.serial.specs.I2cPins.{pins_synced}
 use Rattle.waits.specs.Supply.{reacquired}
 use Rattle.waits.specs.Due.{sample_due_now, pause_ended, image_ended, wake_ended, sample_ended, sample_served}
 use Rattle.effects.specs.Core.{Keeps}
+use Rattle.effects.specs.Theorems.Walk.{OnDemand, automatic_met, sync_met, rise_synced_met, fall_synced_met, pins_synced_met}
 
 pub then : {s t u : Sensor} → Keeps s t → Keeps t u → Keeps s u
 then p q = record { same = q.same ∙ p.same }
 
 pub pick : {s t u : Sensor} (b : Bool) → Keeps s t → Keeps s u → Keeps s (cond b t u)
-pick true p q = p
-pick false p q = q
+pick {s} b p q = cond_both b _ _ (Keeps s) (λ e. p) (λ e. q)
 
 pub itself : (s : Sensor) → Keeps s s
 itself s = record { same = refl }
 
--- ---- automatic mode
+-- ---- automatic mode and samples
 
-pause_restarted_keeps : (s : Sensor) (now : Time) → Keeps s (pause_restarted s now)
-unfolding pause_restarted
-pause_restarted_keeps s now = pick (pauses_again s.sampling.asleep (is_set s.deadlines.pause)) (record { same = refl }) (itself s)
-
-interrupt_held_keeps : (s : Sensor) (now : Time) (was : Bool) → Keeps s (interrupt_held s now was)
-unfolding interrupt_held
-interrupt_held_keeps s now was = pick (holds was (latch_INT (at s.registers operation)) (criterion s)) (record { same = refl }) (itself s)
-
-pause_if_idle_keeps : (s : Sensor) (now : Time) (verify : Bool) → Keeps s (pause_if_idle s now verify)
-unfolding pause_if_idle
-pause_if_idle_keeps s now verify = pick (may_sleep s verify) (record { same = refl }) (itself s)
+on_demand : (now : Time) → OnDemand now Keeps
+on_demand now = record {
+  itself = itself;
+  then = then;
+  edges = λ s inclusive d. record { same = refl };
+  pauses = λ s. record { same = refl };
+  holds = λ s. record { same = refl };
+  manual = λ s. record { same = refl };
+}
 
 pub automatic_keeps : (s : Sensor) (now : Time) (was verify : Bool) → Keeps s (automatic_control s now was verify)
-unfolding automatic_control
-automatic_keeps s now was verify =
-    pick (automatic s) (then (pause_restarted_keeps s now) (then (interrupt_held_keeps _ now was) (pause_if_idle_keeps _ now verify))) (record { same = refl })
+automatic_keeps s now was verify = automatic_met now Keeps (on_demand now) s was verify
 
--- ---- register writes but stored ones
+pub sync_keeps : (s : Sensor) (end : Time) (inclusive : Bool) → Keeps s (sync_local_until s end inclusive)
+sync_keeps s end inclusive = sync_met end Keeps (on_demand end) s inclusive
+
+-- ---- register writes but stored ones: a walk of their own, since `Steps` has steps that keep less (a soft reset, a stored write, a shift), and a smaller record of laws would be longer than it
 
 recounted_keeps : (s : Sensor) (again : Bool) → Keeps s (recounted s again)
 unfolding recounted
@@ -121,16 +116,6 @@ register_effect_keeps Effect.Plain s address value now h = record { same = refl 
 pub then_automatic_keeps : (e : Effect) (s : Sensor) (address value : ℕ) (now : Time) → Ordinary (WriteKind.Taken e) → Keeps s (then_automatic e s address value now)
 then_automatic_keeps e s address value now h = then (register_effect_keeps e s address value now h) (automatic_keeps _ now _ false)
 
--- ---- samples
-
-caught_up_keeps : (s : Sensor) (end : Time) (n : ℕ) → Keeps s (caught_up s end n)
-unfolding caught_up
-caught_up_keeps s end n = pick (eqb n 0) (itself s) (then (record { same = refl }) (automatic_keeps _ end false false))
-
-pub sync_keeps : (s : Sensor) (end : Time) (inclusive : Bool) → Keeps s (sync_local_until s end inclusive)
-unfolding sync_local_until
-sync_keeps s end inclusive = pick (samples_on_demand s) (caught_up_keeps s end _) (itself s)
-
 -- ---- reads, select and the output
 
 pub fetched_keeps : (v : Option ℕ) (s : Sensor) (address : ℕ) → Keeps s (fetched v s address).sensor
@@ -144,16 +129,13 @@ byte_read_keeps None s address = itself s
 byte_read_keeps (Some b) s address = pick (counts_as_read s address) (record { same = refl }) (itself s)
 
 pub rise_synced_keeps : (s : Sensor) (now : Time) → Keeps s (rise_synced s now)
-unfolding rise_synced
-rise_synced_keeps s now = pick (spi_listens s && F.consumes_at_rise s.frame) (sync_keeps s now true) (itself s)
+rise_synced_keeps s now = rise_synced_met now Keeps (on_demand now) s
 
 pub pins_synced_keeps : (s : Sensor) (e : Edge) (now : Time) → Keeps s (pins_synced s e now)
-unfolding pins_synced
-pins_synced_keeps s e now = pick (i2c_listens s && (E.consumes_conversion s.i2c e && not (is_quiet s))) (sync_keeps s now true) (itself s)
+pins_synced_keeps s e now = pins_synced_met now Keeps (on_demand now) s e
 
 pub fall_synced_keeps : (s : Sensor) (now : Time) → Keeps s (fall_synced s now)
-unfolding fall_synced
-fall_synced_keeps s now = pick (spi_listens s && F.consumes_at_fall s.frame (four_wire s)) (sync_keeps s now true) (itself s)
+fall_synced_keeps s now = fall_synced_met now Keeps (on_demand now) s
 
 -- ---- the steps of a due call but the end of a write
 

@@ -1,9 +1,10 @@
 -- When the stage moves, and when it is left alone (analog.rs as bma150.rs and bma150/control.rs call it): an equation for each.
 use Rattle.sensor.specs.Operation.{Operation}
-use Rattle.std.specs.Prelude.{ℕ, suc, ◌<◌, ◌≤◌, ◌≡◌, Bool, cond, List, eqb, ℤ, Option, Some, None}
+use Rattle.std.specs.Prelude.{ℕ, suc, ◌<◌, ◌≤◌, ◌≡◌, Bool, List, eqb, ℤ, Option, Some, None}
 use Rattle.std.proofs.Math.Path.{refl}
 use Rattle.std.proofs.Common.{ap, ◌∙◌, le-ltb, lt-ltb}
 use Rattle.std.proofs.Math.Bool.{true, false}
+use Rattle.std.proofs.lemmas.Bool.{false≢true, cond_both}
 use Rattle.time.specs.declared.Time.{Time}
 use Rattle.time.specs.declared.Duration.{Duration}
 use Rattle.time.specs.Clock as Clock
@@ -11,6 +12,7 @@ use Rattle.analog.specs.Axis.{Acceleration, Analog}
 use Rattle.analog.specs.Axis as A
 use Rattle.sampling.specs.declared.types.Input.{Input}
 use Rattle.sampling.specs.declared.types.Acquisition.{Acquisition}
+use Rattle.sampling.specs.declared.types.Sampling.{Sampling}
 use Rattle.sampling.specs.Phase as Phase
 use Rattle.sampling.specs.Stage as Stage
 use Rattle.sensor.specs.declared.types.Outage.{Outage}
@@ -18,7 +20,7 @@ use Rattle.sensor.specs.declared.types.Sensor.{Sensor}
 use Rattle.spi.specs.Frame as F
 use Rattle.sensor.specs.Record.{away, cold_of, is_off, is_cold}
 use Rattle.sensor.specs.Image.{from_nonvolatile}
-use Rattle.sensor.specs.Select.{reselected, selected_to, may_select}
+use Rattle.sensor.specs.Select.{selected_to, may_select}
 use Rattle.sensor.specs.Mode.{start_acquisition, pause, soft_reset}
 use Rattle.waits.specs.declared.types.Served.{Served}
 use Rattle.effects.specs.Theorems.Phases.{phase_measures, phase_warms, phase_tests}
@@ -95,11 +97,7 @@ module _ (s : Sensor) (input : Acceleration) (now : Time) where
 
   asleep_set : s.sampling.asleep ≡ true → stage (set_input s input now) ≡ stage s
   unfolding turned Stage.turned
-  asleep_set asleep = by (is_off s)
-    where
-      by : (b : Bool) → (cond b s.sampling (Stage.turned s.sampling now s.kept.input.acceleration input)).analog ≡ stage s
-      by true = refl
-      by false = rw asleep
+  asleep_set asleep = cond_both (is_off s) _ _ (λ (g : Sampling). g.analog ≡ stage s) (λ e. refl) (λ e. rw asleep)
 
   off_set : is_off s ≡ true → stage (set_input s input now) ≡ stage s
   unfolding turned
@@ -123,16 +121,23 @@ cut_stays (Some w) s now = refl
 
 deselected : (s : Sensor) (b : Bool) → stage (selected_to s b) ≡ stage s
 unfolding selected_to
-deselected s b = by (F.changes s.frame b)
-  where
-    by : (c : Bool) → stage (cond c (reselected s b) s) ≡ stage s
-    by true = refl
-    by false = refl
+deselected s b = cond_both (F.changes s.frame b) _ _ (λ (t : Sensor). stage t ≡ stage s) (λ e. refl) (λ e. refl)
 
 lost_stage : (s : Sensor) (now : Time) (cold : Bool) → stage (power_off s now cold).sensor ≡ stage (held s now)
 lost_stage s now cold =
     let t = (cut s.writing (held s now) now).sensor in
     deselected t (may_select t false) ∙ cut_stays s.writing (held s now) now
+
+-- an outage, or none, as the supply is away or not
+some_away : (P : Option Outage → Type 0) (o : Option Outage) → away o ≡ true → ((x : Outage) → P (Some x)) → P o
+unfolding away
+some_away P None e h = absurd (false≢true e)
+some_away P (Some x) e h = h x
+
+none_away : (o : Option Outage) → away o ≡ false → o ≡ None
+unfolding away
+none_away None e = refl
+none_away (Some x) e = cc
 
 -- supply below 2400 mV, and not
 module _ (s : Sensor) (rail : ℕ) (now : Time) where
@@ -145,53 +150,28 @@ module _ (s : Sensor) (rail : ℕ) (now : Time) where
   high p = rw (le-ltb rail 2400 p)
 
   lost_on : is_off s ≡ false → stage (supply_low s.outage s (eqb rail 0) now).sensor ≡ stage (held s now)
-  unfolding supply_low away
-  lost_on = go s.outage
-    where
-      go : (o : Option Outage) → away o ≡ false → stage (supply_low o s (eqb rail 0) now).sensor ≡ stage (held s now)
-      go None e = lost_stage s now (eqb rail 0)
-      go (Some o) e = cc
+  unfolding supply_low
+  lost_on on = ap (λ (o : Option Outage). stage (supply_low o s (eqb rail 0) now).sensor) (none_away s.outage on) ∙ lost_stage s now (eqb rail 0)
 
   low_off : is_off s ≡ true → stage (supply_low s.outage s (eqb rail 0) now).sensor ≡ stage s
-  unfolding supply_low zero_while_off away
-  low_off = go s.outage (eqb rail 0)
-    where
-      go : (o : Option Outage) (zero : Bool) → away o ≡ true → stage (supply_low o s zero now).sensor ≡ stage s
-      go None zero e = cc
-      go (Some o) true e = refl
-      go (Some o) false e = refl
+  unfolding supply_low zero_while_off
+  low_off off = some_away (λ o. stage (supply_low o s (eqb rail 0) now).sensor ≡ stage s) s.outage off (λ o. cond_both (eqb rail 0) _ _ (λ (t : Sensor). stage t ≡ stage s) (λ e. refl) (λ e. refl))
 
   back_cold : is_off s ≡ true → is_cold s ≡ true → stage (supply_ok s.outage s now) ≡ A.rest now
-  unfolding supply_ok returned away cold_of
-  back_cold = go s.outage
-    where
-      go : (o : Option Outage) → away o ≡ true → cold_of o ≡ true → stage (supply_ok o s now) ≡ A.rest now
-      go None off cold = cc
-      go (Some o) off cold = rw cold
+  unfolding supply_ok returned cold_of
+  back_cold off = some_away (λ o. cold_of o ≡ true → stage (supply_ok o s now) ≡ A.rest now) s.outage off (λ o cold. rw cold)
 
   back_warm : is_off s ≡ true → is_cold s ≡ false → s.sampling.asleep ≡ false → stage (supply_ok s.outage s now) ≡ A.all_resumed (stage s) now
-  unfolding supply_ok returned reacquired away cold_of
-  back_warm = go s.outage
-    where
-      go : (o : Option Outage) → away o ≡ true → cold_of o ≡ false → s.sampling.asleep ≡ false → stage (supply_ok o s now) ≡ A.all_resumed (stage s) now
-      go None off warm awake = cc
-      go (Some o) off warm awake = rw (warm, awake)
+  unfolding supply_ok returned reacquired cold_of
+  back_warm off warm awake = some_away (λ o. cold_of o ≡ false → stage (supply_ok o s now) ≡ A.all_resumed (stage s) now) s.outage off (λ o e. rw (e, awake)) warm
 
   back_asleep : is_off s ≡ true → is_cold s ≡ false → s.sampling.asleep ≡ true → stage (supply_ok s.outage s now) ≡ stage s
-  unfolding supply_ok returned reacquired away cold_of
-  back_asleep = go s.outage
-    where
-      go : (o : Option Outage) → away o ≡ true → cold_of o ≡ false → s.sampling.asleep ≡ true → stage (supply_ok o s now) ≡ stage s
-      go None off warm asleep = cc
-      go (Some o) off warm asleep = rw (warm, asleep)
+  unfolding supply_ok returned reacquired cold_of
+  back_asleep off warm asleep = some_away (λ o. cold_of o ≡ false → stage (supply_ok o s now) ≡ stage s) s.outage off (λ o e. rw (e, asleep)) warm
 
   on_stays : is_off s ≡ false → stage (supply_ok s.outage s now) ≡ stage s
-  unfolding supply_ok away
-  on_stays = go s.outage
-    where
-      go : (o : Option Outage) → away o ≡ false → stage (supply_ok o s now) ≡ stage s
-      go None e = refl
-      go (Some o) e = cc
+  unfolding supply_ok
+  on_stays on = rw (none_away s.outage on)
 
 -- of a served call the sensor's stage
 abbrev left : Served → Analog

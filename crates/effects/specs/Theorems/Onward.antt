@@ -1,7 +1,9 @@
 -- What happens to a sensor at a moment leaves no axis of the stage ahead of it, where none was.
-use Rattle.std.specs.Prelude.{ℕ, ◌≤◌, ◌≡◌, refl, Bool, cond, Some, None}
-use Rattle.std.proofs.Common.{arith, eqb-true}
-use Rattle.std.proofs.Math.Bool.{true, false}
+use Rattle.std.specs.Prelude.{◌≤◌, ◌≡◌, refl, Bool, Option}
+use Rattle.std.proofs.Common.{eqb-true}
+use Rattle.std.proofs.Math.Bool.{true}
+use Rattle.std.proofs.Math.Nat.{le_of_eq}
+use Rattle.std.proofs.lemmas.Bool.{false≢true, cond_both}
 use Rattle.laws.specs.Iterate.{iterate}
 use Rattle.time.specs.declared.Time.{Time}
 use Rattle.time.specs.Time.{ticks}
@@ -10,7 +12,7 @@ use Rattle.analog.specs.Axis.{Acceleration}
 use Rattle.analog.specs.Axis as A
 use Rattle.deadlines.specs.Deadlines.{is_at}
 use Rattle.control.specs.Lengths.{needs}
-use Rattle.sampling.specs.Stage as Stage
+use Rattle.sampling.specs.declared.types.Sampling.{Sampling}
 use Rattle.sensor.specs.declared.types.Sensor.{Sensor}
 use Rattle.sensor.specs.Record.{is_off}
 use Rattle.writes.specs.Write.{tested}
@@ -21,21 +23,13 @@ use Rattle.effects.specs.Onward.{Upto, Onward}
 use Rattle.effects.specs.Walk.{Steps}
 use Rattle.effects.specs.Theorems.Stage.{rest_upto, resumed_upto, held_upto, turned_upto, sample_stands, samples_stand, edges_counted}
 
-le_of_eq : {a b : ℕ} → a ≡ b → a ≤ b
-le_of_eq e = omega (arith, e)
-
-never : {A : Type 0} → ◌≡◌ {A = Bool} false true → A
-never e = absurd (let z : ◌≡◌ {A = ℕ} 0 1 = cc in omega arith)
-
 module _ (now : Time) where
   -- the edge of a due sample is now
   due_edge : (s : Sensor) → sample_due_now s now ≡ true → ticks (C.next s.sampling.clock) ≤ ticks now
   unfolding next_sample is_at
-  due_edge s e = go (samples_run s) e
-    where
-      go : (b : Bool) → is_at (cond b (Some (C.next s.sampling.clock)) None) now ≡ true → ticks (C.next s.sampling.clock) ≤ ticks now
-      go true q = le_of_eq (eqb-true _ _ q)
-      go false q = never q
+  due_edge s e =
+      cond_both (samples_run s) _ _ (λ (d : Option Time). is_at d now ≡ true → ticks (C.next s.sampling.clock) ≤ ticks now)
+      (λ p q. le_of_eq (eqb-true _ _ q)) (λ p q. absurd (false≢true q)) e
 
   due_upto : (s : Sensor) → sample_due_now s now ≡ true → Onward now s (after_edges s 1)
   unfolding iterate
@@ -46,11 +40,7 @@ module _ (now : Time) where
 
   input_upto : (s : Sensor) (input : Acceleration) → Upto now s.sampling.analog → Upto now (S.turned s input now).analog
   unfolding S.turned
-  input_upto s input h = go (is_off s)
-    where
-      go : (b : Bool) → Upto now (cond b s.sampling (Stage.turned s.sampling now s.kept.input.acceleration input)).analog
-      go true = h
-      go false = turned_upto now s.sampling s.kept.input.acceleration input h
+  input_upto s input h = cond_both (is_off s) _ _ (λ (g : Sampling). Upto now g.analog) (λ e. h) (λ e. turned_upto now s.sampling s.kept.input.acceleration input h)
 
   -- acquisition and a warm return resume, a pause and the loss of supply hold, a soft reset and a cold return rest, a setting turns; nothing else moves the stage
   pub onward : Steps now (Onward now)

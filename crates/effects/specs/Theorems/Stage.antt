@@ -1,14 +1,15 @@
 -- The moments of the stage's axes: what moves one brings it to a moment that is not ahead.
 use Prim.Native.Nat.{ℕ, zero, suc, ◌+◌, ◌-◌, ◌*◌, ◌/◌, ◌%◌, ◌^◌, ◌≤◌, ◌<◌, min}
 use Rattle.std.proofs.Common.{add-zero, le_trans, mod-eq_of_lt, arith, sym, ◌∙◌, lit<}
-use Rattle.std.proofs.Math.Nat.{le_refl, min-le_left, mod-le}
-use Rattle.std.specs.Prelude.{◌≡◌, Bool, true, false, cond, ◌&&◌, List, ℤ, Option, Some, None}
+use Rattle.std.proofs.Math.Nat.{le_refl, le-add_right, min-le_left, mod-le}
+use Rattle.std.specs.Prelude.{◌≡◌, Bool, List, ℤ}
 use Rattle.std.proofs.Math.Path.{ap, subst}
 use Rattle.std.proofs.Math.Dec.{eqb}
+use Rattle.std.proofs.lemmas.Bool.{cond_both}
 use Rattle.laws.specs.Iterate.{iterate}
 use Rattle.time.specs.declared.Time.{Time}
 use Rattle.time.specs.declared.Clock.{Clock}
-use Rattle.time.specs.Time.{ticks, time, next_unit}
+use Rattle.time.specs.Time.{ticks, time}
 use Rattle.time.specs.Clock as C
 use Rattle.time.specs.Theorems.Laws.{ticks_time}
 use Rattle.time.specs.Theorems.Edges.{within}
@@ -24,11 +25,9 @@ use Rattle.sampling.specs.Phase as Phase
 use Rattle.sampling.specs.Stage as Stage
 use Rattle.samples.specs.Samples.{limit}
 use Rattle.effects.specs.Onward.{Upto}
+use Rattle.effects.specs.Theorems.Phases.{sample_kept}
 
 -- orders of naturals
-le_add : (n : ℕ) → n ≤ n + 1
-le_add n = omega arith
-
 not_after : (a l n : ℕ) → a < l → l ≤ n + 1 → a ≤ n
 not_after a l n p q = omega arith
 
@@ -46,23 +45,15 @@ module _ (now : Time) where
   abbrev By : Axis → Type 0
   By a = ticks a.at ≤ ticks now
 
-  one_of : (a b : Axis) (t : Bool) → By a → By b → By (cond t a b)
-  one_of a b true p q = p
-  one_of a b false p q = q
-
   -- one that advances to such a moment does
   advanced_by : (a : Axis) (t : Time) (input : ℤ) → ticks t ≤ ticks now → By (A.advanced a t input)
   advanced_by a t input p = subst (λ (u : Time). ticks u ≤ ticks now) (sym (advanced_at a t input)) p
 
   turned_by : (a : Axis) (old new : ℤ) → By a → By (A.turned a now old new)
   unfolding A.turned
-  turned_by a old new p = one_of a (A.advanced a now old) (A.same old new) p (advanced_by a now old (le_refl (ticks now)))
+  turned_by a old new p = cond_both (A.same old new) _ _ By (λ e. p) (λ e. advanced_by a now old (le_refl (ticks now)))
 
   -- ---- three axes
-
-  choose : {g h : Analog} (t : Bool) → Upto now g → Upto now h → Upto now (cond t g h)
-  choose true p q = p
-  choose false p q = q
 
   pub rest_upto : Upto now (A.rest now)
   rest_upto = record { x = le_refl (ticks now); y = le_refl (ticks now); z = le_refl (ticks now) }
@@ -84,22 +75,18 @@ module _ (now : Time) where
   with_axis_upto : (g : Analog) (axis : ℕ) (a : Axis) → Upto now g → By a → Upto now (A.with_axis g axis a)
   unfolding A.with_axis
   with_axis_upto g axis a h p =
-      choose (eqb axis 0) (record { x = p; y = h.y; z = h.z })
-      (choose (eqb axis 1) (record { x = h.x; y = p; z = h.z }) (record { x = h.x; y = h.y; z = p }))
+      cond_both (eqb axis 0) _ _ (Upto now) (λ e. record { x = p; y = h.y; z = h.z })
+      (λ e. cond_both (eqb axis 1) _ _ (Upto now) (λ f. record { x = h.x; y = p; z = h.z }) (λ f. record { x = h.x; y = h.y; z = p }))
 
   -- ---- a sampling that is held or whose input is turned
 
-  either : (g : Sampling) (h : Analog) (t : Bool) → Upto now g.analog → Upto now h → Upto now (cond t g (Phase.with_analog g h)).analog
-  either g h true p q = p
-  either g h false p q = q
-
   pub held_upto : (g : Sampling) (input : Input) → Upto now g.analog → Upto now (Stage.held g now input).analog
   unfolding Stage.held
-  held_upto g input h = either g _ g.asleep h (all_held_upto g.analog input.acceleration)
+  held_upto g input h = cond_both g.asleep _ _ (λ (k : Sampling). Upto now k.analog) (λ e. h) (λ e. all_held_upto g.analog input.acceleration)
 
   pub turned_upto : (g : Sampling) (old new : Acceleration) → Upto now g.analog → Upto now (Stage.turned g now old new).analog
   unfolding Stage.turned
-  turned_upto g old new h = either g _ g.asleep h (all_turned_upto g.analog old new h)
+  turned_upto g old new h = cond_both g.asleep _ _ (λ (k : Sampling). Upto now k.analog) (λ e. h) (λ e. all_turned_upto g.analog old new h)
 
   -- ---- sample phases
 
@@ -107,10 +94,6 @@ module _ (now : Time) where
   pub record Stands (k : Clock) (c : Acquisition) : Type 0 where
     pub clock : c.sampling.clock ≡ k
     pub upto : Upto now c.sampling.analog
-
-  pick : {k : Clock} {c d : Acquisition} (t : Bool) → Stands k c → Stands k d → Stands k (cond t c d)
-  pick true p q = p
-  pick false p q = q
 
   -- edge j after the clock's last one fits 64 bits and is not ahead
   abbrev pub Counted : Clock → ℕ → Type 0
@@ -121,14 +104,6 @@ module _ (now : Time) where
   further k n = record { start = k.start; ordinal = k.ordinal + n }
 
   module _ (input : Input) (needs : List ℕ) where
-    observed_stands : {k : Clock} (c : Acquisition) → Stands k c → Stands k (Phase.observed c needs)
-    unfolding Phase.observed
-    observed_stands c h = pick (Phase.observing c.registers c.sampling) (record { clock = h.clock; upto = h.upto }) h
-
-    scanned_stands : {k : Clock} (c : Acquisition) (axis : ℕ) → Stands k c → Stands k (Phase.scanned c axis needs)
-    unfolding Phase.scanned
-    scanned_stands c axis h = pick (eqb axis 2) (observed_stands (Phase.counted c) (record { clock = h.clock; upto = h.upto })) h
-
     -- the sampled axis advances to the clock's last edge
     measured_stands : {k : Clock} (c : Acquisition) (axis : ℕ) → ticks (C.last k) ≤ ticks now → Stands k c → Stands k (Phase.measured c input axis)
     measured_stands c axis p h =
@@ -138,26 +113,14 @@ module _ (now : Time) where
           upto = with_axis_upto c.sampling.analog axis (Phase.lagged c input axis) h.upto (advanced_by (A.axis_of c.sampling.analog axis) (C.last c.sampling.clock) (Phase.axis_input input axis) l);
         }
 
-    axis_stands : {k : Clock} (t : Option ℕ) (c : Acquisition) (phase : ℕ) → ticks (C.last k) ≤ ticks now → Stands k c → Stands k (Phase.axis_phase t c input phase needs)
-    unfolding Phase.axis_phase
-    axis_stands None c phase p h = scanned_stands (Phase.measured c input (phase - 1)) (phase - 1) (measured_stands c (phase - 1) p h)
-    axis_stands (Some left) c phase p h = pick (eqb phase 3 && eqb left 0) (record { clock = h.clock; upto = h.upto }) h
-
-    phase_stands : {k : Clock} (c : Acquisition) → ticks (C.last k) ≤ ticks now → Stands k c → Stands k (Phase.sample_phase c input needs)
-    unfolding Phase.sample_phase
-    phase_stands c p h =
-        pick (eqb (Phase.phase_of c.sampling.clock.ordinal) 0)
-        (record { clock = h.clock; upto = h.upto })
-        (axis_stands (Phase.test_counted c.sampling.test) _ (Phase.phase_of c.sampling.clock.ordinal) p (record { clock = h.clock; upto = h.upto }))
-
-    ticked_stands : {k : Clock} (c : Acquisition) → Stands k c → Stands k (Phase.ticked c)
-    unfolding Phase.ticked
-    ticked_stands c h = pick (Phase.ticks_now c) (record { clock = h.clock; upto = h.upto }) h
-
     -- one edge that is not ahead
     pub sample_stands : {k : Clock} (c : Acquisition) → ticks (C.next k) ≤ ticks now → Stands k c → Stands (C.advanced k 1) (Phase.sample input needs c)
-    unfolding Phase.sample
-    sample_stands c p h = ticked_stands _ (phase_stands (Phase.advanced c) p (record { clock = ap (λ (x : Clock). C.advanced x 1) h.clock; upto = h.upto }))
+    sample_stands {k} c p h =
+        sample_kept (Stands (C.advanced k 1))
+        (λ d i e. record { clock = e.clock; upto = e.upto }) (λ d e. record { clock = e.clock; upto = e.upto }) input needs
+        (λ d e. record { clock = e.clock; upto = e.upto }) (λ d e. record { clock = e.clock; upto = e.upto })
+        (λ d axis small e. measured_stands d axis p e) (λ d e. record { clock = e.clock; upto = e.upto })
+        c (record { clock = ap (λ (x : Clock). C.advanced x 1) h.clock; upto = h.upto })
 
     -- the clock one edge further, where the number of that edge fits 64 bits
     next_edge : (k : Clock) (n : ℕ) → k.ordinal + suc n < 2 ^ 64 → C.advanced (further k n) 1 ≡ further k (suc n)
@@ -185,16 +148,12 @@ module _ (now : Time) where
 moment_by : (n : ℕ) → ticks (time n) ≤ n
 moment_by n = subst (λ (x : ℕ). x ≤ n) (sym (ticks_time n)) (mod-le n (2 ^ 128))
 
-either_moment : (l m : Time) (n : ℕ) (t : Bool) → ticks l ≤ n → ticks m ≤ n → ticks (cond t l m) ≤ n
-either_moment l m n true p q = p
-either_moment l m n false p q = q
-
 -- the limit is at most one unit after now
 limit_by : (now : Time) (inclusive : Bool) → ticks (limit now inclusive) ≤ ticks now + 1
 unfolding limit
 limit_by now inclusive =
     let n = min (ticks now + 1) (2 ^ 128 - 1) in
-    either_moment (next_unit now) now (ticks now + 1) inclusive (le_trans (moment_by n) (min-le_left (ticks now + 1) (2 ^ 128 - 1))) (le_add (ticks now))
+    cond_both inclusive _ _ (λ (t : Time). ticks t ≤ ticks now + 1) (λ e. le_trans (moment_by n) (min-le_left (ticks now + 1) (2 ^ 128 - 1))) (λ e. le-add_right (ticks now) 1)
 
 -- so the bounds of the words of now play no part
 pub edges_counted : (now : Time) (k : Clock) (inclusive : Bool) (j : ℕ) → 0 < j → j ≤ C.edges_before k (limit now inclusive) → Counted now k j
