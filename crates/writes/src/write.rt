@@ -7,13 +7,10 @@ use control::kinds::{
 };
 use control::types::{Effect, SelfTest, Sleep, WriteKind};
 use nv::WriteCycle;
-use registers::fields::{CONTROL, MEASUREMENT, OPERATION, STATUS, bandwidth};
+use registers::fields::{CONTROL, MEASUREMENT, OPERATION, ST_RESULT, STATUS, bandwidth};
 use sensor::image::shadowing;
 use sensor::types::{Sensor, StoredWrite};
 use time::{Duration, Time};
-
-// st_result, a bit of 09.
-const ST_RESULT: u8 = 7;
 
 #[tactic(auto, unfolding(crate::specs::Write::recounted))]
 fn recounted(mut sensor: Sensor) -> Sensor
