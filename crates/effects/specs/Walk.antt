@@ -54,8 +54,8 @@ pub record Steps (now : Time) (R : Sensor → Sensor → Type 0) : Type 0 where
   pub operates : (s : Sensor) (value : ℕ) → R s (with_reads (put s operation value) (shadowing s.reads value))
   pub measures : (s : Sensor) (value : ℕ) → R s (measurement_written s value)
   pub soft_resets : (s : Sensor) → R s (soft_reset s now)
-  pub lasts : (s : Sensor) (address value : ℕ) → write_kind s address value ≡ (WriteKind.Taken Effect.Durations) → R s (durations_written s address value)
-  pub puts : (s : Sensor) (address value : ℕ) → write_kind s address value ≡ (WriteKind.Taken Effect.Plain) → R s (put s address value)
+  pub lasts : (s : Sensor) (address value : ℕ) → write_kind s address value ≡ WriteKind.Taken Effect.Durations → R s (durations_written s address value)
+  pub puts : (s : Sensor) (address value : ℕ) → write_kind s address value ≡ WriteKind.Taken Effect.Plain → R s (put s address value)
   pub begins : (s : Sensor) (address value : ℕ) → write_kind s address value ≡ WriteKind.Stored → R s (begun s address value now)
   -- ---- reads and select
   pub fetches : (s : Sensor) (address b : ℕ) → R s (with_reads s (prepared s address b).reads)

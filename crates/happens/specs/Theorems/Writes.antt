@@ -63,7 +63,7 @@ module _ {t : Time} {image : List ℕ} {selected : Bool} {s : Sensor} (h : Awake
 
 -- ---- 15 hex, 00: automatic mode off
 module _ {t : Time} {image : List ℕ} {selected : Bool} {s : Sensor} (h : Awake t image selected s) where
-  operation_kind : (running : Bool) → Kinds.kind_of_write 0x15 0 (gate s) running ≡ (WriteKind.Taken Effect.Operation)
+  operation_kind : (running : Bool) → Kinds.kind_of_write 0x15 0 (gate s) running ≡ WriteKind.Taken Effect.Operation
   unfolding Kinds.kind_of_write ignores unwritable image_blocks sleep_blocks locked stored Kinds.written_register
   operation_kind running = ap (λ (g : Gate). Kinds.kind_of_write 0x15 0 g running) (gate_unbarred h)
 
@@ -109,7 +109,7 @@ abbrev put_control : Sensor → (value : ℕ) → Sensor
 put_control s value = with_sampling (put s control value) (with_test s.sampling None)
 
 module _ {t : Time} {image : List ℕ} {selected : Bool} {s : Sensor} (h : Awake t image selected s) (manual : automatic s ≡ false) where
-  control_kind : (running : Bool) → (Kinds.kind_of_write 0x0a 0x10 (gate s) running ≡ (WriteKind.Taken Effect.Control)) × (Kinds.kind_of_write 0x0a 0x11 (gate s) running ≡ (WriteKind.Taken Effect.Control))
+  control_kind : (running : Bool) → (Kinds.kind_of_write 0x0a 0x10 (gate s) running ≡ WriteKind.Taken Effect.Control) × (Kinds.kind_of_write 0x0a 0x11 (gate s) running ≡ WriteKind.Taken Effect.Control)
   unfolding Kinds.kind_of_write ignores unwritable image_blocks sleep_blocks locked stored Kinds.written_register Kinds.written_control
   control_kind running = (
     ap (λ (g : Gate). Kinds.kind_of_write 0x0a 0x10 g running) (gate_unbarred h),
