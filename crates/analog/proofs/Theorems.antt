@@ -6,3 +6,4 @@ pub mod Lands
 pub mod Turns
 pub mod Fits
 pub mod Settles
+pub mod Axes

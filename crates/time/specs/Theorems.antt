@@ -1,2 +1,3 @@
 pub mod Laws
 pub mod Edges
+pub mod Without
