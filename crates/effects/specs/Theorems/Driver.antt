@@ -149,7 +149,9 @@ automatic_fades s now was verify = automatic_met now Fades (fading_steps now) s 
 pub sync_fades : (s : Sensor) (end : Time) (inclusive : Bool) → Fades s (sync_local_until s end inclusive)
 sync_fades s end inclusive = sync_met end Fades (fading_steps end) s inclusive
 
--- ---- register writes and due calls: walks of their own, since `Steps` has steps that drive the output (a shift) and, for `Steady`, a wake
+-- ---- register writes
+
+-- these and due calls have walks of their own: `Steps` has steps that drive the output (a shift), and a wake, which is not steady
 
 -- t has the driver of s
 abbrev Same : Sensor → Sensor → Type 0

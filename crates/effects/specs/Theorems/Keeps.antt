@@ -50,7 +50,9 @@ automatic_keeps s now was verify = automatic_met now Keeps (on_demand now) s was
 pub sync_keeps : (s : Sensor) (end : Time) (inclusive : Bool) → Keeps s (sync_local_until s end inclusive)
 sync_keeps s end inclusive = sync_met end Keeps (on_demand end) s inclusive
 
--- ---- register writes but stored ones: a walk of their own, since `Steps` has steps that keep less (a soft reset, a stored write, a shift), and a smaller record of laws would be longer than it
+-- ---- register writes but stored ones
+
+-- a walk of their own: `Steps` has steps that keep less (a soft reset, a stored write, a shift), and a record of the others with its two instances is longer than this
 
 recounted_keeps : (s : Sensor) (again : Bool) → Keeps s (recounted s again)
 unfolding recounted
