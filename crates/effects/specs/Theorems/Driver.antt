@@ -33,7 +33,7 @@ use Rattle.waits.specs.declared.types.Served.{Served}
 use Rattle.waits.specs.Due.{sample_due_now, pause_ended, write_ended, image_ended, wake_ended, sample_ended, waits_ended, at_deadline}
 use Rattle.effects.specs.Theorems.Keeps.{Ordinary}
 use Rattle.effects.specs.Theorems.Phases.{samples_same}
-use Rattle.effects.specs.Theorems.Walk.{OnDemand, automatic_met, sync_met}
+use Rattle.effects.specs.Theorems.Walk.{Automatic, OnDemand, automatic_met, sync_met}
 
 -- ---- a sample leaves register 15 hex, in which the wire mode stands
 
@@ -75,37 +75,53 @@ steady s = record { driver = λ a. (refl, a) }
 awake_not_asleep : {A : Type 0} → ◌≡◌ {A = Bool} true false → A
 awake_not_asleep e = absurd (true≢false e)
 
-steady_steps : (now : Time) → OnDemand now Steady
-steady_steps now = record {
+steady_automatic : (now : Time) → Automatic now Steady
+steady_automatic now = record {
   itself = steady;
   then = and_steady;
-  edges = λ s inclusive d. record { driver = λ a. (refl, sym (samples_asleep s.kept.input needs (edges_until s now inclusive) (acquisition s)) ∙ a) };
   pauses = λ s. record { driver = λ a. awake_not_asleep a };
   holds = λ s. record { driver = λ a. (refl, a) };
   manual = λ s. record { driver = λ a. (refl, a) };
 }
 
+steady_steps : (now : Time) → OnDemand now Steady
+steady_steps now = record {
+  automatic = steady_automatic now;
+  edges = λ s inclusive d. record { driver = λ a. (refl, sym (samples_asleep s.kept.input needs (edges_until s now inclusive) (acquisition s)) ∙ a) };
+}
+
 pub automatic_steady : (s : Sensor) (now : Time) (was verify : Bool) → Steady s (automatic_control s now was verify)
-automatic_steady s now was verify = automatic_met now Steady (steady_steps now) s was verify
+automatic_steady s now was verify = automatic_met now Steady (steady_automatic now) s was verify
+
+-- ---- automatic mode writes no register
+
+abbrev Alike : Sensor → Sensor → Type 0
+Alike s t = t.registers ≡ s.registers
+
+register_steps : (now : Time) → Automatic now Alike
+register_steps now = record { itself = λ s. refl; then = λ p q. q ∙ p; pauses = λ s. refl; holds = λ s. refl; manual = λ s. refl }
+
+automatic_mode : (now : Time) (s : Sensor) (was verify : Bool) → (automatic_control s now was verify).registers ≡ s.registers
+automatic_mode now s was verify = automatic_met now Alike (register_steps now) s was verify
 
 -- ---- samples up to a moment leave the wire mode, and the driver of a sensor that is awake after them
 
 abbrev reg15 : Sensor → ℕ
 reg15 s = at s.registers operation
 
-mode_steps : (now : Time) → OnDemand now (λ s t. reg15 t ≡ reg15 s)
+-- t has the wire mode of s
+abbrev Mode : Sensor → Sensor → Type 0
+Mode s t = reg15 t ≡ reg15 s
+
+mode_steps : (now : Time) → OnDemand now Mode
 mode_steps now = record {
-  itself = λ s. refl;
-  then = λ p q. q ∙ p;
+  automatic = record { itself = λ s. refl; then = λ p q. q ∙ p; pauses = λ s. refl; holds = λ s. refl; manual = λ s. refl };
   edges = λ s inclusive d. samples_mode s.kept.input needs (edges_until s now inclusive) (acquisition s);
-  pauses = λ s. refl;
-  holds = λ s. refl;
-  manual = λ s. refl;
 }
 
 module _ (s : Sensor) (end : Time) where
   pub sync_mode : (inclusive : Bool) → reg15 (sync_local_until s end inclusive) ≡ reg15 s
-  sync_mode inclusive = sync_met end (λ s t. reg15 t ≡ reg15 s) (mode_steps end) s inclusive
+  sync_mode inclusive = sync_met end Mode (mode_steps end) s inclusive
 
   pub sync_driver : (inclusive : Bool) → (sync_local_until s end inclusive).sampling.asleep ≡ false → (sync_local_until s end inclusive).frame.driven ≡ s.frame.driven
   sync_driver inclusive a = ((sync_met end Steady (steady_steps end) s inclusive).driver a).0
@@ -133,18 +149,20 @@ unfaded e = record { stays = true; driver = e }
 faded : {s t : Sensor} → t.frame.driven ≡ D.Floating → Fades s t
 faded e = record { stays = false; driver = e }
 
-fading_steps : (now : Time) → OnDemand now Fades
-fading_steps now = record {
+fading_automatic : (now : Time) → Automatic now Fades
+fading_automatic now = record {
   itself = λ s. unfaded refl;
   then = and_fades;
-  edges = λ s inclusive d. unfaded refl;
   pauses = λ s. faded refl;
   holds = λ s. unfaded refl;
   manual = λ s. unfaded refl;
 }
 
+fading_steps : (now : Time) → OnDemand now Fades
+fading_steps now = record { automatic = fading_automatic now; edges = λ s inclusive d. unfaded refl }
+
 pub automatic_fades : (s : Sensor) (now : Time) (was verify : Bool) → Fades s (automatic_control s now was verify)
-automatic_fades s now was verify = automatic_met now Fades (fading_steps now) s was verify
+automatic_fades s now was verify = automatic_met now Fades (fading_automatic now) s was verify
 
 pub sync_fades : (s : Sensor) (end : Time) (inclusive : Bool) → Fades s (sync_local_until s end inclusive)
 sync_fades s end inclusive = sync_met end Fades (fading_steps end) s inclusive

@@ -21,7 +21,7 @@ use Rattle.serial.specs.I2cPins.{pins_synced}
 use Rattle.waits.specs.Supply.{reacquired}
 use Rattle.waits.specs.Due.{sample_due_now, pause_ended, image_ended, wake_ended, sample_ended, sample_served}
 use Rattle.effects.specs.Core.{Keeps}
-use Rattle.effects.specs.Theorems.Walk.{OnDemand, automatic_met, sync_met, rise_synced_met, fall_synced_met, pins_synced_met}
+use Rattle.effects.specs.Theorems.Walk.{Automatic, OnDemand, automatic_met, sync_met, rise_synced_met, fall_synced_met, pins_synced_met}
 
 pub then : {s t u : Sensor} → Keeps s t → Keeps t u → Keeps s u
 then p q = record { same = q.same ∙ p.same }
@@ -34,18 +34,20 @@ itself s = record { same = refl }
 
 -- ---- automatic mode and samples
 
-on_demand : (now : Time) → OnDemand now Keeps
-on_demand now = record {
+in_automatic : (now : Time) → Automatic now Keeps
+in_automatic now = record {
   itself = itself;
   then = then;
-  edges = λ s inclusive d. record { same = refl };
   pauses = λ s. record { same = refl };
   holds = λ s. record { same = refl };
   manual = λ s. record { same = refl };
 }
 
+on_demand : (now : Time) → OnDemand now Keeps
+on_demand now = record { automatic = in_automatic now; edges = λ s inclusive d. record { same = refl } }
+
 pub automatic_keeps : (s : Sensor) (now : Time) (was verify : Bool) → Keeps s (automatic_control s now was verify)
-automatic_keeps s now was verify = automatic_met now Keeps (on_demand now) s was verify
+automatic_keeps s now was verify = automatic_met now Keeps (in_automatic now) s was verify
 
 pub sync_keeps : (s : Sensor) (end : Time) (inclusive : Bool) → Keeps s (sync_local_until s end inclusive)
 sync_keeps s end inclusive = sync_met end Keeps (on_demand end) s inclusive

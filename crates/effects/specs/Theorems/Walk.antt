@@ -38,18 +38,22 @@ use Rattle.waits.specs.Supply as S
 use Rattle.waits.specs.Due.{waits_ended, pause_ended, completed, write_ended, image_ended, wake_ended, sample_due_now, sample_ended, sample_served, hold_ends_now, waits_served, at_deadline}
 use Rattle.effects.specs.Walk.{Steps}
 
--- the steps of automatic mode, and of the samples that something asks for outside it
-pub record OnDemand (now : Time) (R : Sensor → Sensor → Type 0) : Type 0 where
+-- the steps of automatic mode
+pub record Automatic (now : Time) (R : Sensor → Sensor → Type 0) : Type 0 where
   pub itself : (s : Sensor) → R s s
   pub then : {s t u : Sensor} → R s t → R t u → R s u
-  pub edges : (s : Sensor) (inclusive : Bool) → samples_on_demand s ≡ true → R s (after_edges s (edges_until s now inclusive))
   pub pauses : (s : Sensor) → R s (pause s now)
   pub holds : (s : Sensor) → R s (with_deadlines s (with_irq_hold s.deadlines (Some (plus now (from_micros 330)))))
   pub manual : (s : Sensor) → R s (automatic_off s)
 
-module _ (now : Time) (R : Sensor → Sensor → Type 0) (p : OnDemand now R) where
-  -- ---- automatic mode
+-- and of the samples that something asks for outside it
+pub record OnDemand (now : Time) (R : Sensor → Sensor → Type 0) : Type 0 where
+  pub automatic : Automatic now R
+  pub edges : (s : Sensor) (inclusive : Bool) → samples_on_demand s ≡ true → R s (after_edges s (edges_until s now inclusive))
 
+-- ---- automatic mode
+
+module _ (now : Time) (R : Sensor → Sensor → Type 0) (p : Automatic now R) where
   restarted_met : (s : Sensor) → R s (pause_restarted s now)
   unfolding pause_restarted
   restarted_met s = cond_both (pauses_again s.sampling.asleep (is_set s.deadlines.pause)) _ _ (R s) (λ e. p.pauses s) (λ e. p.itself s)
@@ -67,12 +71,16 @@ module _ (now : Time) (R : Sensor → Sensor → Type 0) (p : OnDemand now R) wh
   automatic_met s was verify =
       cond_both (automatic s) _ _ (R s) (λ e. p.then (restarted_met s) (p.then (held_met _ was) (idle_met _ verify))) (λ e. p.manual s)
 
-  -- ---- samples
+-- ---- samples
+
+module _ (now : Time) (R : Sensor → Sensor → Type 0) (d : OnDemand now R) where
+  abbrev p : Automatic now R
+  p = d.automatic
 
   caught_met : (s : Sensor) (inclusive : Bool) → samples_on_demand s ≡ true → R s (caught_up s now (edges_until s now inclusive))
   unfolding caught_up
-  caught_met s inclusive d =
-      cond_both (eqb (edges_until s now inclusive) 0) _ _ (R s) (λ e. p.itself s) (λ e. p.then (p.edges s inclusive d) (automatic_met _ false false))
+  caught_met s inclusive o =
+      cond_both (eqb (edges_until s now inclusive) 0) _ _ (R s) (λ e. p.itself s) (λ e. p.then (d.edges s inclusive o) (automatic_met now R p _ false false))
 
   pub sync_met : (s : Sensor) (inclusive : Bool) → R s (sync_local_until s now inclusive)
   unfolding sync_local_until
@@ -94,11 +102,14 @@ module _ (now : Time) (R : Sensor → Sensor → Type 0) (p : Steps now R) where
   same_as : (s : Sensor) → R s s
   same_as s = p.itself s
 
+  in_automatic : Automatic now R
+  in_automatic = record { itself = p.itself; then = p.then; pauses = p.pauses; holds = p.holds; manual = p.manual }
+
   on_demand : OnDemand now R
-  on_demand = record { itself = p.itself; then = p.then; edges = p.edges; pauses = p.pauses; holds = p.holds; manual = p.manual }
+  on_demand = record { automatic = in_automatic; edges = p.edges }
 
   pub automatic_meets : (s : Sensor) (was verify : Bool) → R s (automatic_control s now was verify)
-  automatic_meets s was verify = automatic_met now R on_demand s was verify
+  automatic_meets s was verify = automatic_met now R in_automatic s was verify
 
   pub sync_meets : (s : Sensor) (inclusive : Bool) → R s (sync_local_until s now inclusive)
   sync_meets s inclusive = sync_met now R on_demand s inclusive
