@@ -59,7 +59,7 @@ impl Axis {
         Axis { at: now, ..self }
     }
 
-    // The input was constant since the axis's moment.
+    // The axis at a later moment; its input was constant until then.
     #[tactic(auto, unfolding(crate::specs::Axis::advanced))]
     pub fn advance(self, now: Time, input: i32) -> Axis
         ensures { result ≡ Ax.advanced self now input }
@@ -115,7 +115,7 @@ impl Analog {
         self.map(|a| a.resume(now))
     }
 
-    // `hold_analog`.
+    // Every axis advances to this moment with its input (the Rust's `hold_analog`).
     #[tactic(auto, unfolding(crate::specs::Axis::held))]
     pub fn hold(self, now: Time, input: Acceleration) -> Analog
         ensures { result ≡ Ax.held self now input }
@@ -169,7 +169,7 @@ impl<T: Copy> Axes<T> {
         }
     }
 
-    // The axis of a number, z from 2 on. No enum of three: a type of three values would ask more of callers.
+    // The axis of a number, z from 2 on. No enum of three: a type of three values would narrow what a caller may hand in.
     #[tactic(auto, unfolding(crate::specs::Axis::axis_of))]
     pub fn axis(self, axis: u8) -> T
         ensures { result ≡ Ax.axis_of self axis }

@@ -33,7 +33,7 @@ const COMMON: Factors = Factors {
 // What remains after 8 ms or more.
 const NOTHING: Factors = Factors { re: 0, im: 0 };
 
-// One, as a complex number. By `as`: a constant's value makes no call.
+// One, as a complex number; by `as`, since a constant's value can make no call.
 const ONE: Factors = Factors {
     re: Q as i64,
     im: 0,
@@ -52,8 +52,8 @@ pub(crate) struct Angle {
     ghost small: { size ≤ 2 ^ 44 },
 }
 
-// x times the angle, divided by 2^48 · n, rounded. The size first, the 2^48 by a shift: `round` would divide 128 bits by a variable, and
-// a setting that moves would take twice the time.
+// x times the angle, divided by 2^48 · n, rounded. It works on the size and divides by 2^48 with a shift: `round` would divide 128 bits by
+// a variable, and a setting that moves would take twice the time.
 fn share(x: i64, angle: Angle, n: u64) -> i64
     requires { (unsigned_abs x ≤ 2 ^ 50) × (0 < n) × (n ≤ 12) }
     ensures { (result ≡ R.round (x *ℤ pos angle.size) (D.unit * n)) × (unsigned_abs result ≤ 2 ^ 47) }
@@ -146,7 +146,7 @@ fn decay(dt: u64) -> Factors
     raised(series(angle), squares)
 }
 
-// What remains after a length of time: that of the two lengths between samples is not computed.
+// What remains after a length of time; for the two lengths from a sample to the next it is a constant.
 #[tactic(auto, using(crate::proofs::Theorems::Bounds::decay_nothing, crate::proofs::Theorems::Common::one_of_two, crate::proofs::Theorems::Common::factors_are_decay, crate::proofs::Theorems::Common::factors_common))]
 pub(crate) fn factors(d: Duration) -> Factors
     ensures { result ≡ D.factors (lasts d) }

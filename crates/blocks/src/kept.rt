@@ -43,7 +43,7 @@ impl KeptBytes {
         &self.buf[self.at..self.have]
     }
 
-    // Leaves the first n out, all where they are fewer.
+    // Drops the first n, or all where they are fewer.
     pub fn skip(&mut self, n: usize)
         ensures { self.new ≡ drop n self.old }
     {

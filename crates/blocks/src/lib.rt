@@ -26,7 +26,7 @@ pub trait Answers<const N: usize, const M: usize> {
         ensures { gives self.old item.now result self.new };
 }
 
-// Has each item of the input answered, until it ends; bytes at its end that are no whole item are left out. No contract of std says when a
+// Answers each item of the input until the input ends; bytes at its end that are no whole item are left out. No contract of std says when a
 // read or a write fails, or what a write that failed left in its writer: so `broken_off` says neither.
 pub fn drive<const N: usize, const M: usize, A: Answers<N, M>, R: Read, W: Write>(
     machine: &mut A,

@@ -14,8 +14,8 @@ use time::Time;
 // Where a start has its image: its last 19 bytes.
 pub const IMAGE: Range<usize> = 13..32;
 
-// A start, whose image stays in the input; a call of the host; or no command of the list. `Bad` and no `Option`: the
-// definitions have it as a command, also where operands are missing or not listed; refusal 7 answers it, and its byte is used up.
+// A start, whose image stays in the input; a call of the host; or no command of the list. `Bad` and no `Option`: it
+// is a command of every list in the definitions, with a size (its one byte) and an answer (refusal 7) like the others.
 #[derive(Clone, Copy)]
 pub enum Command {
     Start(Starting, Time),
@@ -90,7 +90,7 @@ impl Opcode {
     }
 }
 
-// The N bytes from `at`, which is where the list of commands has an operand: slices cut to size would hide the number.
+// The N bytes from `at`, which is where the list of commands has an operand: slices cut to size would not show the list's number.
 fn part<const N: usize>(command: &[u8], at: usize) -> Option<[u8; N]>
     ensures { D.Reads result command.now (at + N) (D.part at N command.now) }
 {
@@ -115,7 +115,7 @@ fn moment(command: &[u8], at: usize) -> Option<Time>
     Some(Time(seconds.into(), fraction))
 }
 
-// 0 or 1; another value is not listed.
+// 0 or 1; no other value is an operand.
 fn flag(command: &[u8], at: usize) -> Option<bool>
     ensures { MatchOption result ((length command.now ≤ at) ⊎ (1 < D.byte_at at command.now)) (λ on. (at < length command.now) × (D.byte_at at command.now ≡ D.flag_number on)) }
 {

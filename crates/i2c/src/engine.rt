@@ -1,5 +1,5 @@
 // One report of the lines, in the order of UM10204: START and STOP, byte, acknowledge, address, data. A test says whether a step
-// applies, and the step matches the phase again: the definitions ask in this order of UM10204's parts, not by phase.
+// applies, and the step matches the phase again, since the definitions go by UM10204's parts and not by phase.
 ghost use Rattle.std.specs.Prelude.{◌≡◌, true, not, ◌&&◌, ◌<◌, Some, None};
 ghost use Rattle.i2c.specs.Bus as B;
 ghost use Rattle.i2c.specs.Engine as E;
@@ -39,7 +39,7 @@ fn at_ninth(phase: Phase, e: Edge) -> bool
     }
 }
 
-// The edge is the eighth rise of a byte that is received.
+// A rise in a byte being received; it is asked after `within_byte`, so it is the eighth.
 #[tactic(auto, unfolding(crate::specs::Engine::completes))]
 fn completes(phase: Phase, e: Edge) -> bool
     ensures { result ≡ E.completes phase e }

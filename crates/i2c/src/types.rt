@@ -56,7 +56,7 @@ pub enum Phase {
     MasterAcknowledge(Answer),
 }
 
-// The phase, the register pointer, the bits of the byte being received and their number, and whether the data line is held low.
+// The phase, the register pointer, how many bits of a byte being received there are and those bits, and whether the data line is held low.
 #[derive(Clone, Copy, Debug, PartialEq, Eq)]
 pub struct State {
     pub phase: Phase,

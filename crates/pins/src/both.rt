@@ -30,7 +30,7 @@ pub(crate) struct Sensor {
 }
 
 // The registers as after a soft reset: the stock image, but for register 15. 12 and 13 are the customer's and have no name. `sensor` has
-// the image too, `serial` has `sent_byte` and `commands` has `levels`: this program reaches no crate above `i2c` and `spi`.
+// the image too, but this program stands on no crate above `i2c` and `spi`.
 fn reloaded(operation: u8) -> [u8; 62] {
     let mut r = [0u8; 62];
     r[CHIP_ID] = 2;
@@ -151,28 +151,33 @@ impl Sensor {
         self.stored_at(address, value & 0x3d)
     }
 
-    fn driven(self) -> u8 {
+    fn driven(self) -> Drive {
         if self.frame.selected && !self.quiet {
-            drive_number(self.frame.driven)
+            self.frame.driven
         } else {
-            0
+            Drive::Floating
         }
     }
 
-    fn output(self) -> u8 {
-        if self.four_wire() { self.driven() } else { 0 }
+    fn output(self) -> Drive {
+        if self.four_wire() {
+            self.driven()
+        } else {
+            Drive::Floating
+        }
     }
 
-    fn data_output(self) -> u8 {
-        if !self.frame.selected {
-            return u8::from(self.i2c.low);
+    fn data_output(self) -> Drive {
+        match (self.frame.selected, self.four_wire(), self.i2c.low) {
+            (true, false, _) => self.driven(),
+            (false, _, true) => Drive::Low,
+            _ => Drive::Floating,
         }
-        if self.four_wire() { 0 } else { self.driven() }
     }
 
     // Both outputs, and what the last event told.
     pub(crate) fn pins(self) -> u8 {
         let told = u8::from(self.consumed) << 4 | u8::from(self.viewed.is_none()) << 5;
-        told | self.data_output() << 2 | self.output()
+        told | drive_number(self.data_output()) << 2 | drive_number(self.output())
     }
 }

@@ -1,18 +1,19 @@
 // An event: 00..0f a report of the two lines (bits 3 and 2 the clock and data before, 1 and 0 after), 10 and 11 select,
 // 20 and 21 a rise with that data level, 30 a fall, 40 the quiet time ends, 60 and 61 a start in four- or three-wire
-// mode, 80..ff a view of a register. They stay the numbers of the protocol (oracle/README.md): an enum would only name each once more.
+// mode, 80..ff a view of a register. They stay the numbers of the protocol (oracle/README.md): each is read and
+// served in one arm, where a record of `leaves` has its operands beside its kind.
 use crate::both::{FOUR_WIRES, NO_VIEW, Sensor, THREE_WIRES, start};
 use blocks::Answers;
 use i2c::types::{Action, Levels};
 use registers::fields::has;
 use spi::types::{Clocked, Shift};
 
-// The byte that I2C sends: ones where there is none.
+// The byte that I2C sends: ones where there is none (`ones_for` of `serial`, which stands above).
 fn sent_byte(tx: Option<u8>) -> u8 {
     tx.unwrap_or(0xff)
 }
 
-// The lines as two bits of an event, by number.
+// The lines as two bits of an event, by number. `commands` has the same for its operand; `i2c`, on which both stand, knows no bits of a byte.
 fn levels(e: u8, scl: u8, sda: u8) -> Levels {
     Levels {
         scl: has(e, scl),
@@ -89,7 +90,7 @@ impl Sensor {
         self
     }
 
-    fn acknowledged(self) -> Sensor {
+    fn first_bit_taken(self) -> Sensor {
         match self.frame.first_bit() {
             Some(address) => self.noted(address),
             None => self,
@@ -105,7 +106,7 @@ impl Sensor {
 
     // A bit is taken.
     fn taken(self, mosi: bool) -> Sensor {
-        let mut s = self.acknowledged();
+        let mut s = self.first_bit_taken();
         let taken = s.frame.take_bit(mosi, s.four_wire());
         s.frame = taken.frame;
         s.spi_written(taken.write).shifted(Clocked::Rise)

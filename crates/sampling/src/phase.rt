@@ -79,7 +79,8 @@ fn lagged(s: &Sampling, input: Input, axis: u8) -> Axis
     a.sample(s.clock.last(), input.acceleration.axis(axis))
 }
 
-// A record of `input` and `needs` would be made only to be taken apart: `input` ends in `measure`, `needs` in `end_scan`.
+// A record of `input` and `needs` would be made only to be taken apart: `input` ends in `measure`, `needs` in `end_scan`. `needs` is no
+// constant here, since the definitions are of any four needs.
 impl Acquisition {
     // Whether the scans are observed.
     #[tactic(auto, unfolding(crate::specs::Phase::observing))]

@@ -1,4 +1,4 @@
-// What moves the stage beside the phases.
+// What moves the low-pass stage outside the phases.
 ghost use Rattle.std.specs.Prelude.{◌≡◌};
 ghost use Rattle.sampling.specs.Phase as P;
 ghost use Rattle.sampling.specs.Stage as S;

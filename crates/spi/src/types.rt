@@ -25,7 +25,8 @@ pub enum Clocked {
     Fall,
 }
 
-// `tx` is the byte being sent, or none: nothing was fetched yet, or `peek` withholds it.
+// `tx` is the byte being sent, or none: nothing was fetched yet, or `peek` withholds it. `rx` with `rx_bits` and I2C's `shift` with `bits`
+// are the Rust's fields, a byte being received and its count: each bus counts by its own rule.
 #[derive(Clone, Copy, PartialEq, Eq)]
 pub struct Frame {
     pub serial: Serial,

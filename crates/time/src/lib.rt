@@ -65,7 +65,8 @@ impl Time {
         Time::from_ticks(self.ticks().saturating_add(1))
     }
 
-    // Whether this moment lies strictly before another: its contract speaks of units, that of `<` of two fields; so does that of `same`.
+    // Whether this moment lies strictly before another. Beside `<`, as `same` beside `==`: these contracts speak of units, the derived
+    // ones of two fields.
     pub fn precedes(self, other: Time) -> bool
         ensures { result ≡ T.precedes self other }
     {
@@ -131,7 +132,7 @@ impl Duration {
     }
 }
 
-// How many edges lie strictly before the end of a length that begins at edge 0, without that edge.
+// How many edges lie strictly before the end of a length that begins at edge 0; edge 0 is not counted.
 fn edges_in(d: Duration) -> u64
     ensures { result ≡ min (2 ^ 64 - 1) ((12000 * T.lasts d - 1) / 2 ^ 64) }
 {
