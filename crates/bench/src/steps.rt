@@ -41,10 +41,10 @@ fn silent(sensor: Bma150, outcome: Result<(), Refusal>) -> Reply
     }
 }
 
-// The start of either command. `by` and `when` are the command's, `image` is lent from its input: no struct has the three before they are
-// handed to a call, which takes two of them. A `match`, though each call hands its `Starting` on: these two are the calls that a host has.
-fn begun(by: Starting, when: Time, image: &[u8]) -> Replied
-    ensures outcome_value { R.number result.outcome ≡ K.start_number by when image.now }
+// The start of either command. `by` and `when` come from the command, `image` from its input: a struct of the three would be made for this
+// call alone. A `match`, since these two are the calls that a host has.
+fn begun(by: Starting, when: Time, image: &[u8]) -> Replied<()>
+    ensures outcome_value { R.number result.answer ≡ K.start_number by when image.now }
     ensures sensor_value { result.sensor ≡ K.after_start by when image.now }
 {
     match by {
@@ -57,13 +57,9 @@ fn begun(by: Starting, when: Time, image: &[u8]) -> Replied
 fn start(running: Bma150, by: Starting, when: Time, image: &[u8]) -> Reply
     ensures { L.replied result ≡ L.commanded running (Command.Start by when) image.now }
 {
-    let Replied { sensor, outcome } = begun(by, when, image);
-    let kept = if is_accepted(outcome) {
-        sensor
-    } else {
-        running
-    };
-    silent(kept, outcome)
+    let Replied { sensor, answer } = begun(by, when, image);
+    let kept = if is_accepted(answer) { sensor } else { running };
+    silent(kept, answer)
 }
 
 // Supply and due calls report.

@@ -1,6 +1,5 @@
 // What a command leaves and answers, before it is written.
-use bma150::host::Bma150;
-use calls::types::Refusal;
+use bma150::types::Replied;
 use sensor::types::Viewed;
 use waits::types::Report;
 
@@ -12,9 +11,5 @@ pub enum Extra {
     Image([u8; 19]),
 }
 
-// The sensor left; what an accepted command adds, if it adds anything, or why it is refused.
-#[derive(Clone, Copy)]
-pub struct Reply {
-    pub sensor: Bma150,
-    pub answer: Result<Option<Extra>, Refusal>,
-}
+// The reply to a command: its answer is what it adds, if it adds anything.
+pub type Reply = Replied<Option<Extra>>;

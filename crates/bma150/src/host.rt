@@ -9,7 +9,7 @@ ghost use Rattle.calls.specs.declared.types.Starting.TheVariants as Starting;
 ghost use Rattle.bma150.specs.Values as Vals;
 ghost use Rattle.bma150.specs.Called as C;
 
-use crate::types::{Replied, Reported};
+use crate::types::Replied;
 use analog::types::Acceleration;
 use calls::table::{is_accepted, refusal, start_refusal};
 use calls::types::{Call, Refusal, Starting, Timed};
@@ -24,23 +24,13 @@ use spi::types::Drive;
 use time::Time;
 use waits::due::at_deadline;
 use waits::supply::{set_input, set_supply, set_temperature, without_report};
-use waits::types::Served;
+use waits::types::{Report, Served};
 
 // The record, and the last accepted time. Only the calls reach them.
 #[derive(Clone, Copy)]
 pub struct Bma150 {
     sensor: Sensor,
     last: Time,
-}
-
-// 19 lent bytes as an image: a copy, where `try_from` would give a `Result` that is always `Ok`.
-fn image_of(bytes: &[u8]) -> [u8; 19]
-    requires { length bytes.now ≡ 19 }
-    ensures { result ≡ bytes.now }
-{
-    let mut image = [0; 19];
-    image.copy_from_slice(bytes);
-    image
 }
 
 // The byte of register 14 in lent bytes of an image.
@@ -50,7 +40,7 @@ fn measurement_of(bytes: &[u8]) -> u8
     bytes.get(9).copied().unwrap_or(0)
 }
 
-// An image in a lent buffer of 19 bytes. A function of its own, since its contract carries the lengths (as that of `image_of`).
+// An image in a lent buffer of 19 bytes. A function of its own, since its contract carries the lengths.
 fn hand_out(buffer: &mut [u8], image: [u8; 19])
     requires { length buffer.old ≡ 19 }
     ensures { buffer.new ≡ image }
@@ -77,13 +67,13 @@ fn effect(sensor: Sensor, now: Time, t: Timed) -> Served
 
 // A start by either call. Its three parameters are what the two calls have: a struct would be made there to be taken apart here.
 #[tactic(auto, unfolding(crate::specs::Called::after_start, calls::specs::Table::unless_refused), using(calls::proofs::Theorems::Left::start_length))]
-fn started(by: Starting, when: Time, image: &[u8]) -> Replied
-    ensures outcome_value { Table.number result.outcome ≡ C.start_number by when image.now }
+fn started(by: Starting, when: Time, image: &[u8]) -> Replied<()>
+    ensures outcome_value { Table.number result.answer ≡ C.start_number by when image.now }
     ensures sensor_value { result.sensor ≡ C.after_start by when image.now }
 {
-    let outcome = start_refusal(by, when, image.len(), measurement_of(image));
-    let (last, stored) = if is_accepted(outcome) {
-        (when, image_of(image))
+    let answer = start_refusal(by, when, image.len(), measurement_of(image));
+    let (last, stored) = if is_accepted(answer) {
+        (when, image.try_into().unwrap())
     } else {
         (Time(0, 0), stock())
     };
@@ -92,22 +82,22 @@ fn started(by: Starting, when: Time, image: &[u8]) -> Replied
             sensor: Sensor::from_nonvolatile(last, stored),
             last,
         },
-        outcome,
+        answer,
     }
 }
 
 // Each call says in full what it promises, where it is read: most repeat the clauses of `timed` or `started` at their own arguments.
 impl Bma150 {
-    pub fn start(when: Time, image: &[u8]) -> Replied
-        ensures outcome_value { Table.number result.outcome ≡ C.start_number Starting.Checked when image.now }
+    pub fn start(when: Time, image: &[u8]) -> Replied<()>
+        ensures outcome_value { Table.number result.answer ≡ C.start_number Starting.Checked when image.now }
         ensures sensor_value { result.sensor ≡ C.after_start Starting.Checked when image.now }
     {
         started(Starting::Checked, when, image)
     }
 
     // A start with an image that was stored: range code 3 and bandwidth code 7 are taken.
-    pub fn start_stored(when: Time, image: &[u8]) -> Replied
-        ensures outcome_value { Table.number result.outcome ≡ C.start_number Starting.Stored when image.now }
+    pub fn start_stored(when: Time, image: &[u8]) -> Replied<()>
+        ensures outcome_value { Table.number result.answer ≡ C.start_number Starting.Stored when image.now }
         ensures sensor_value { result.sensor ≡ C.after_start Starting.Stored when image.now }
     {
         started(Starting::Stored, when, image)
@@ -121,21 +111,21 @@ impl Bma150 {
         refusal(self.last, due, self.sensor.lines(), call)
     }
 
-    // A timed call.
+    // Any timed call, taken as a value. It stands beside the six that go through it: those are the calls by name, of which four answer no report.
     #[tactic(auto, unfolding(crate::specs::Values::report_values, crate::specs::Values::report_of, crate::specs::Called::reported, crate::specs::Called::leaves, crate::specs::Called::adds, calls::specs::Table::unless_refused, calls::specs::Table::number), using(calls::proofs::Theorems::Values::refused_number, crate::proofs::Laws::reports_added))]
-    pub fn timed(self, now: Time, t: Timed) -> Reported
+    pub fn timed(self, now: Time, t: Timed) -> Replied<Option<Report>>
         ensures outcome_value { Table.number result.answer ≡ (C.called self (Call.At now t)).number }
         ensures sensor_value { result.sensor ≡ (C.called self (Call.At now t)).sensor }
         ensures report_value { Vals.report_values (Vals.report_of result.answer) ≡ C.reported (C.called self (Call.At now t)).adds }
     {
         if let Err(why) = self.asked(Call::At(now, t)) {
-            return Reported {
+            return Replied {
                 sensor: self,
                 answer: Err(why),
             };
         }
         let after = effect(sync_local_until(self.sensor, now, false), now, t);
-        Reported {
+        Replied {
             sensor: Bma150 {
                 sensor: after.sensor,
                 last: now,
@@ -144,11 +134,11 @@ impl Bma150 {
         }
     }
 
-    pub fn accelerations(self, now: Time, input: Acceleration) -> Replied
-        ensures outcome_value { Table.number result.outcome ≡ (C.called self (Call.At now (Timed.Accelerations input))).number }
+    pub fn accelerations(self, now: Time, input: Acceleration) -> Replied<()>
+        ensures outcome_value { Table.number result.answer ≡ (C.called self (Call.At now (Timed.Accelerations input))).number }
         ensures sensor_value { result.sensor ≡ (C.called self (Call.At now (Timed.Accelerations input))).sensor }
     {
-        self.timed(now, Timed::Accelerations(input)).into()
+        self.timed(now, Timed::Accelerations(input)).map(|_| ())
     }
 
     #[tactic(auto, unfolding(crate::specs::Called::leaves, calls::specs::Table::unless_refused), using(calls::proofs::Theorems::Left::temperature_accepted))]
@@ -161,7 +151,7 @@ impl Bma150 {
         }
     }
 
-    pub fn supply(self, now: Time, rail: u16) -> Reported
+    pub fn supply(self, now: Time, rail: u16) -> Replied<Option<Report>>
         ensures outcome_value { Table.number result.answer ≡ (C.called self (Call.At now (Timed.Supply rail))).number }
         ensures sensor_value { result.sensor ≡ (C.called self (Call.At now (Timed.Supply rail))).sensor }
         ensures report_value { Vals.report_values (Vals.report_of result.answer) ≡ C.reported (C.called self (Call.At now (Timed.Supply rail))).adds }
@@ -169,7 +159,7 @@ impl Bma150 {
         self.timed(now, Timed::Supply(rail))
     }
 
-    pub fn due(self, now: Time) -> Reported
+    pub fn due(self, now: Time) -> Replied<Option<Report>>
         ensures outcome_value { Table.number result.answer ≡ (C.called self (Call.At now Timed.Due)).number }
         ensures sensor_value { result.sensor ≡ (C.called self (Call.At now Timed.Due)).sensor }
         ensures report_value { Vals.report_values (Vals.report_of result.answer) ≡ C.reported (C.called self (Call.At now Timed.Due)).adds }
@@ -187,25 +177,25 @@ impl Bma150 {
         }
     }
 
-    pub fn rising(self, now: Time, mosi: bool) -> Replied
-        ensures outcome_value { Table.number result.outcome ≡ (C.called self (Call.At now (Timed.Rising mosi))).number }
+    pub fn rising(self, now: Time, mosi: bool) -> Replied<()>
+        ensures outcome_value { Table.number result.answer ≡ (C.called self (Call.At now (Timed.Rising mosi))).number }
         ensures sensor_value { result.sensor ≡ (C.called self (Call.At now (Timed.Rising mosi))).sensor }
     {
-        self.timed(now, Timed::Rising(mosi)).into()
+        self.timed(now, Timed::Rising(mosi)).map(|_| ())
     }
 
-    pub fn falling(self, now: Time) -> Replied
-        ensures outcome_value { Table.number result.outcome ≡ (C.called self (Call.At now Timed.Falling)).number }
+    pub fn falling(self, now: Time) -> Replied<()>
+        ensures outcome_value { Table.number result.answer ≡ (C.called self (Call.At now Timed.Falling)).number }
         ensures sensor_value { result.sensor ≡ (C.called self (Call.At now Timed.Falling)).sensor }
     {
-        self.timed(now, Timed::Falling).into()
+        self.timed(now, Timed::Falling).map(|_| ())
     }
 
-    pub fn pins(self, now: Time, before: Levels, after: Levels) -> Replied
-        ensures outcome_value { Table.number result.outcome ≡ (C.called self (Call.At now (Timed.Pins before after))).number }
+    pub fn pins(self, now: Time, before: Levels, after: Levels) -> Replied<()>
+        ensures outcome_value { Table.number result.answer ≡ (C.called self (Call.At now (Timed.Pins before after))).number }
         ensures sensor_value { result.sensor ≡ (C.called self (Call.At now (Timed.Pins before after))).sensor }
     {
-        self.timed(now, Timed::Pins(before, after)).into()
+        self.timed(now, Timed::Pins(before, after)).map(|_| ())
     }
 
     // The byte that a register shows, if it is not withheld, and whether it is of a mean.

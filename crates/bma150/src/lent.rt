@@ -3,7 +3,7 @@ ghost use Rattle.std.specs.Prelude.{◌≡◌};
 ghost use Rattle.bma150.specs.Lent.{DueLent, PinsLent};
 
 use crate::host::Bma150;
-use crate::types::Reported;
+use crate::types::Replied;
 use calls::types::Refusal;
 use i2c::types::Levels;
 use time::Time;
@@ -12,7 +12,7 @@ use waits::types::Report;
 pub fn due_lent(s: &mut Bma150, when: Time) -> Result<Option<Report>, Refusal>
     ensures { DueLent s.old when s.new result }
 {
-    let Reported { sensor, answer } = s.due(when);
+    let Replied { sensor, answer } = s.due(when);
     *s = sensor;
     answer
 }
@@ -20,7 +20,7 @@ pub fn due_lent(s: &mut Bma150, when: Time) -> Result<Option<Report>, Refusal>
 pub fn pins_lent(s: &mut Bma150, when: Time, before: Levels, after: Levels) -> Result<(), Refusal>
     ensures { PinsLent s.old when before after s.new result }
 {
-    let r = s.pins(when, before, after);
-    *s = r.sensor;
-    r.outcome
+    let Replied { sensor, answer } = s.pins(when, before, after);
+    *s = sensor;
+    answer
 }

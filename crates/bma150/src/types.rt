@@ -1,34 +1,31 @@
 // What the calls answer.
-ghost use Rattle.std.specs.Prelude.{◌≡◌};
+ghost use Rattle.std.specs.Prelude.{◌≡◌, IsOkAnd, MatchResult};
+ghost use Rattle.std.specs.Result.{ForOk};
+ghost use Rattle.std.specs.declared.result.Result.TheVariants.{Ok, Err};
 ghost use Rattle.calls.specs.Table as Table;
 
 use crate::host::Bma150;
 use calls::types::Refusal;
-use waits::types::Report;
 
-// The sensor and the answer of a call.
+// The sensor that a call leaves, and its answer: what an accepted call gives, or why it is refused.
 #[derive(Clone, Copy)]
-pub struct Replied {
+pub struct Replied<T> {
     pub sensor: Bma150,
-    pub outcome: Result<(), Refusal>,
+    pub answer: Result<T, Refusal>,
 }
 
-// The sensor and the answer of a call that may report the end of a stored write, if it is accepted.
-#[derive(Clone, Copy)]
-pub struct Reported {
-    pub sensor: Bma150,
-    pub answer: Result<Option<Report>, Refusal>,
-}
-
-// A reply without the report.
-impl From<Reported> for Replied {
-    ghost from_gives = { λ r p. (p.sensor ≡ r.sensor) × (Table.number p.outcome ≡ Table.number r.answer) };
-
+impl<T> Replied<T> {
+    // Another answer of an accepted call; the sensor and a refusal stay.
     #[tactic(auto, unfolding(calls::specs::Table::number))]
-    fn from(r: Reported) -> Replied {
+    pub fn map<U, F: FnOnce(T) -> U>(self, f: F) -> Replied<U>
+        requires { ForOk self.answer (F.pre f) }
+        ensures cases { MatchResult self.answer (λ x. IsOkAnd result.answer (F.post f x)) (λ why. result.answer ≡ Err why) }
+        ensures number { Table.number result.answer ≡ Table.number self.answer }
+        ensures sensor { result.sensor ≡ self.sensor }
+    {
         Replied {
-            sensor: r.sensor,
-            outcome: r.answer.map(|_| ()),
+            sensor: self.sensor,
+            answer: self.answer.map(f),
         }
     }
 }

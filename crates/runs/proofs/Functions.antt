@@ -28,7 +28,6 @@ use Rattle.sensor.specs.RegisterReads.{viewed}
 use Rattle.samples.specs.Samples.{interaction_deadline}
 use Rattle.waits.specs.declared.types.Report.{Report}
 use Rattle.bma150.specs.declared.types.Replied.{Replied}
-use Rattle.bma150.specs.declared.types.Reported.{Reported}
 use Rattle.bma150.specs.declared.host.Bma150.{Bma150}
 use Rattle.bma150.specs.Values as Vals
 use Rattle.bma150.specs.Values.{report_values, report_of}
@@ -175,7 +174,7 @@ answer_of s now t = go (outcome_of s.last (interaction_deadline s.sensor) s.sens
 pub replies : (s : Bma150) (c : Call) → (t : Bma150) × (a : Answer) × Serves s c t a
 replies s (Call.At now t) =
     let w = answer_of s now t in
-    let r : Reported = record { sensor = step s (Call.At now t); answer = w.0 } in
+    let r : Replied (Option Report) = record { sensor = step s (Call.At now t); answer = w.0 } in
     (r.sensor, replied w.0 t (report_of w.0) (seen r.sensor), Serves.timed r (seen r.sensor) (w.1.0, (refl, w.1.1)) (observed r.sensor))
 replies s (Call.Temperature m) =
     let t = step s (Call.Temperature m) in
@@ -210,11 +209,11 @@ start_answer b = record {
 }
 
 -- a reply with the number and the sensor of the definitions, and the observers' replies
-begun_is : (b : Start) (l : List ℕ) (r : Replied) (o : Pins) → l ≡ b.image → T.number r.outcome ≡ start_number b.by b.time l → r.sensor ≡ after_start b.by b.time l → Observed r.sensor o
-    → (r.sensor ≡ started b) × (answered (T.number r.outcome) Added.nothing o ≡ start_answer b)
+begun_is : (b : Start) (l : List ℕ) (r : Replied (Unit {0})) (o : Pins) → l ≡ b.image → T.number r.answer ≡ start_number b.by b.time l → r.sensor ≡ after_start b.by b.time l → Observed r.sensor o
+    → (r.sensor ≡ started b) × (answered (T.number r.answer) Added.nothing o ≡ start_answer b)
 begun_is b l r o h number sensor q =
     let e : r.sensor ≡ started b = sensor ∙ ap (λ (k : List ℕ). after_start b.by b.time k) h in
-    let n : T.number r.outcome ≡ start_number b.by b.time b.image = number ∙ ap (λ (k : List ℕ). start_number b.by b.time k) h in
+    let n : T.number r.answer ≡ start_number b.by b.time b.image = number ∙ ap (λ (k : List ℕ). start_number b.by b.time k) h in
     (e, rw (q.interrupt, drive_letter_injective _ _ q.output, drive_letter_injective _ _ q.data_output, moment_injective _ _ q.next_due, e, n))
 
 pub begun : {b : Start} {s : Bma150} {a : Answer} → Begins b s a → (s ≡ started b) × (a ≡ start_answer b)
@@ -225,13 +224,13 @@ starts : (by : Starting) (now : Time) (image : List ℕ) → let b : Start = rec
 starts Starting.Checked now image =
     let b : Start = record { by = Starting.Checked; time = now; image = image } in
     let u = start_outcome Starting.Checked now (length image) (measurement_of image) in
-    let r : Replied = record { sensor = started b; outcome = u.0 } in
+    let r : Replied (Unit {0}) = record { sensor = started b; answer = u.0 } in
     subst (λ (n : ℕ). Begins b (started b) (answered n Added.nothing (seen (started b)))) u.1
     (Begins.checked ([], tt) (at_address image) r (seen (started b)) refl (u.1, refl) (observed (started b)))
 starts Starting.Stored now image =
     let b : Start = record { by = Starting.Stored; time = now; image = image } in
     let u = start_outcome Starting.Stored now (length image) (measurement_of image) in
-    let r : Replied = record { sensor = started b; outcome = u.0 } in
+    let r : Replied (Unit {0}) = record { sensor = started b; answer = u.0 } in
     subst (λ (n : ℕ). Begins b (started b) (answered n Added.nothing (seen (started b)))) u.1
     (Begins.stored ([], tt) (at_address image) r (seen (started b)) refl (u.1, refl) (observed (started b)))
 

@@ -24,7 +24,6 @@ use Rattle.calls.specs.Table as T
 use Rattle.sensor.specs.declared.types.Viewed.{Viewed}
 use Rattle.waits.specs.declared.types.Report.{Report}
 use Rattle.bma150.specs.declared.types.Replied.{Replied}
-use Rattle.bma150.specs.declared.types.Reported.{Reported}
 use Rattle.bma150.specs.declared.host.Bma150.{Bma150}
 use Rattle.bma150.specs.Values as Vals
 use Rattle.bma150.specs.Called.{Added, of_view, timed_adds}
@@ -120,28 +119,28 @@ handed u b o = answered (T.number u) (T.unless_refused (T.number u) Added.nothin
 
 -- the replies of each call: those that the contracts allow of the functions that serve it. The due and the pin call are served by value and lent, every timed call by its own function and by `timed`
 pub data Serves : Bma150 → Call → Bma150 → Answer → Type 0 where
-  timed : {s : Bma150} {now : Time} {t : Timed} (r : Reported) (o : Pins) → timed_reads.Post tt (s, (now, (t, tt))) r (s, (now, (t, tt))) → Observed r.sensor o
+  timed : {s : Bma150} {now : Time} {t : Timed} (r : Replied (Option Report)) (o : Pins) → timed_reads.Post tt (s, (now, (t, tt))) r (s, (now, (t, tt))) → Observed r.sensor o
       → Serves s (Call.At now t) r.sensor (replied r.answer t (Vals.report_of r.answer) o)
-  accelerations : {s : Bma150} {now : Time} {input : Acceleration} (r : Replied) (o : Pins)
+  accelerations : {s : Bma150} {now : Time} {input : Acceleration} (r : Replied (Unit {0})) (o : Pins)
       → accelerations_reads.Post tt (s, (now, (input, tt))) r (s, (now, (input, tt))) → Observed r.sensor o
-      → Serves s (Call.At now (Timed.Accelerations input)) r.sensor (replied r.outcome (Timed.Accelerations input) None o)
+      → Serves s (Call.At now (Timed.Accelerations input)) r.sensor (replied r.answer (Timed.Accelerations input) None o)
   temperature : {s : Bma150} {m : ℤ} (t : Bma150) (o : Pins) → temperature_reads.Post tt (s, (m, tt)) t (s, (m, tt)) → Observed t o
       → Serves s (Call.Temperature m) t (accepted Added.nothing o)
-  supply : {s : Bma150} {now : Time} {rail : ℕ} (r : Reported) (o : Pins) → supply_reads.Post tt (s, (now, (rail, tt))) r (s, (now, (rail, tt))) → Observed r.sensor o
+  supply : {s : Bma150} {now : Time} {rail : ℕ} (r : Replied (Option Report)) (o : Pins) → supply_reads.Post tt (s, (now, (rail, tt))) r (s, (now, (rail, tt))) → Observed r.sensor o
       → Serves s (Call.At now (Timed.Supply rail)) r.sensor (replied r.answer (Timed.Supply rail) (Vals.report_of r.answer) o)
-  due : {s : Bma150} {now : Time} (r : Reported) (o : Pins) → due_reads.Post tt (s, (now, tt)) r (s, (now, tt)) → Observed r.sensor o
+  due : {s : Bma150} {now : Time} (r : Replied (Option Report)) (o : Pins) → due_reads.Post tt (s, (now, tt)) r (s, (now, tt)) → Observed r.sensor o
       → Serves s (Call.At now Timed.Due) r.sensor (replied r.answer Timed.Due (Vals.report_of r.answer) o)
   due_lent : {s : Bma150} {now : Time} (t : Bma150) (r : Vals.Answer) (o : Pins) → DueLent s now t r → Observed t o
       → Serves s (Call.At now Timed.Due) t (replied r Timed.Due (Vals.report_of r) o)
   select : {s : Bma150} {on : Bool} (t : Bma150) (o : Pins) → select_reads.Post tt (s, (on, tt)) t (s, (on, tt)) → Observed t o
       → Serves s (Call.Select on) t (accepted Added.nothing o)
-  rising : {s : Bma150} {now : Time} {mosi : Bool} (r : Replied) (o : Pins) → rising_reads.Post tt (s, (now, (mosi, tt))) r (s, (now, (mosi, tt))) → Observed r.sensor o
-      → Serves s (Call.At now (Timed.Rising mosi)) r.sensor (replied r.outcome (Timed.Rising mosi) None o)
-  falling : {s : Bma150} {now : Time} (r : Replied) (o : Pins) → falling_reads.Post tt (s, (now, tt)) r (s, (now, tt)) → Observed r.sensor o
-      → Serves s (Call.At now Timed.Falling) r.sensor (replied r.outcome Timed.Falling None o)
-  pins : {s : Bma150} {now : Time} {before after : Levels} (r : Replied) (o : Pins)
+  rising : {s : Bma150} {now : Time} {mosi : Bool} (r : Replied (Unit {0})) (o : Pins) → rising_reads.Post tt (s, (now, (mosi, tt))) r (s, (now, (mosi, tt))) → Observed r.sensor o
+      → Serves s (Call.At now (Timed.Rising mosi)) r.sensor (replied r.answer (Timed.Rising mosi) None o)
+  falling : {s : Bma150} {now : Time} (r : Replied (Unit {0})) (o : Pins) → falling_reads.Post tt (s, (now, tt)) r (s, (now, tt)) → Observed r.sensor o
+      → Serves s (Call.At now Timed.Falling) r.sensor (replied r.answer Timed.Falling None o)
+  pins : {s : Bma150} {now : Time} {before after : Levels} (r : Replied (Unit {0})) (o : Pins)
       → pins_reads.Post tt (s, (now, (before, (after, tt)))) r (s, (now, (before, (after, tt)))) → Observed r.sensor o
-      → Serves s (Call.At now (Timed.Pins before after)) r.sensor (replied r.outcome (Timed.Pins before after) None o)
+      → Serves s (Call.At now (Timed.Pins before after)) r.sensor (replied r.answer (Timed.Pins before after) None o)
   pins_lent : {s : Bma150} {now : Time} {before after : Levels} (t : Bma150) (r : Outcome) (o : Pins) → PinsLent s now before after t r → Observed t o
       → Serves s (Call.At now (Timed.Pins before after)) t (replied r (Timed.Pins before after) None o)
   view : {s : Bma150} {address : ℕ} (r : Option Viewed) (o : Pins) → view_reads.Post tt (s, (address, tt)) r (s, (address, tt)) → Observed s o
@@ -152,12 +151,12 @@ pub data Serves : Bma150 → Call → Bma150 → Answer → Type 0 where
 
 -- the replies of a start, by either call
 pub data Begins : Start → Bma150 → Answer → Type 0 where
-  checked : {now : Time} {image : List ℕ} (κs : Lfts 1) (lent : Bor (List ℕ)) (r : Replied) (o : Pins) → lent.now ≡ image
+  checked : {now : Time} {image : List ℕ} (κs : Lfts 1) (lent : Bor (List ℕ)) (r : Replied (Unit {0})) (o : Pins) → lent.now ≡ image
       → start_reads.Post κs (now, (lent, tt)) r (now, (lent, tt)) → Observed r.sensor o
-      → Begins (record { by = Starting.Checked; time = now; image = image }) r.sensor (answered (T.number r.outcome) Added.nothing o)
-  stored : {now : Time} {image : List ℕ} (κs : Lfts 1) (lent : Bor (List ℕ)) (r : Replied) (o : Pins) → lent.now ≡ image
+      → Begins (record { by = Starting.Checked; time = now; image = image }) r.sensor (answered (T.number r.answer) Added.nothing o)
+  stored : {now : Time} {image : List ℕ} (κs : Lfts 1) (lent : Bor (List ℕ)) (r : Replied (Unit {0})) (o : Pins) → lent.now ≡ image
       → start_stored_reads.Post κs (now, (lent, tt)) r (now, (lent, tt)) → Observed r.sensor o
-      → Begins (record { by = Starting.Stored; time = now; image = image }) r.sensor (answered (T.number r.outcome) Added.nothing o)
+      → Begins (record { by = Starting.Stored; time = now; image = image }) r.sensor (answered (T.number r.answer) Added.nothing o)
 
 -- what the contracts of the lent calls say is `DueLent` and `PinsLent`, and there is such a reply whatever the sensor and the arguments
 pub record LentToo : Type 2 where

@@ -10,8 +10,7 @@ use Rattle.commands.specs.Decode.{decoded, image, size, is_bad}
 use Rattle.commands.proofs.Theorems.More.{size_pos, size_fits}
 use Rattle.bma150.specs.declared.host.Bma150.{Bma150}
 use Rattle.bma150.specs.Called.{Called}
-use Rattle.bench.specs.declared.types.Reply.{Reply}
-use Rattle.bench.specs.Line.{commanded, line, replied}
+use Rattle.bench.specs.Line.{commanded, line, Reply, replied}
 use Rattle.bench.specs.Run.{took, room, bench}
 use Rattle.bench.specs.Block.{is_whole, block, answer}
 use Rattle.bench.specs.Theorems.Lawful.{lawful}

@@ -9,8 +9,8 @@ use Rattle.bench.proofs.steps.start.Goals.{then-is_accepted, else-is_accepted}
 pub returns : goal.returns
 returns c =
     let a = c.args in
-    let e = c.begun-outcome.ensures in
-    let n = number c.begun-outcome.result.outcome in
+    let e = c.begun-answer.ensures in
+    let n = number c.begun-answer.result.answer in
     c.silent.ensures
     ∙ elim c.if-is_accepted.branch [
       | then-is_accepted w ↦ ap (λ (s : Bma150). silent s n) w.kept-is ∙ start_accepted a.running _ a.by a.when _ n e.outcome_value e.sensor_value (sym c.is_accepted.ensures ∙ w.if-is_accepted.true)
