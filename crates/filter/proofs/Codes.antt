@@ -5,7 +5,8 @@ use mathlib.Core.List.{List, ◌∷◌}
 use Prim.Native.Nat.{ℕ, zero, suc, ◌+◌, ◌-◌, ◌*◌, ◌%◌, ◌≤◌, ◌<◌}
 use native.Mathlib.Omega.{arith}
 use lib.IntN.{ℤ, pos}
-use lib.ListN.{length, get_or, take, set, replicate, length-set}
+use lib.ListN.{length, get_or, take, drop, set, replicate, length-set}
+use Rattle.std.proofs.lemmas.List.{get_or-take, get_or-drop}
 use lib.Seq.{get_or-set_same, get_or-set_other}
 use borrow.Author.Tests.{lt-ltb, le-ltb}
 use Rattle.filter.specs.declared.Ring.{Ring}
@@ -35,6 +36,16 @@ tabulate_push m f g code e q =
     let y : take m (tabulate (suc m) g) ≡ tabulate m g = take_tabulate m (suc m) g (omega arith) in
     let z : tabulate (suc m) f ≡ f 0 ∷ tabulate m (λ k. f (suc k)) = tabulate_suc m f in
     z ∙ cc
+
+-- a ring of the history is the ring of that slice of it, from 0 on
+pub ring_lent : (h : List ℤ) (base n at : ℕ) → n ≡ 64 → ring (take n (drop base h)) 0 at ≡ ring h base at
+unfolding ring
+ring_lent h base n at e =
+    tabulate_ext 64 (λ k. get_or (take n (drop base h)) (0 + (at + 64 - k) % 64) (pos 0)) (λ k. get_or h (base + (at + 64 - k) % 64) (pos 0))
+    (λ k q.
+    let i = (at + 64 - k) % 64 in
+    let z : 0 + i ≡ i = omega arith in
+    rw z (get_or-take n (drop base h) i (pos 0) (omega arith) ∙ get_or-drop base h i (pos 0)))
 
 module _ (h : List ℤ) (a n : ℕ) (code : ℤ) (n<64 : n < 64) where
   -- the ring that is written

@@ -89,37 +89,37 @@ take_tabulate (suc n) zero f p = absurd (omega arith)
 take_tabulate (suc n) (suc m) f p = ap (λ (l : List ℤ). f 0 ∷ l) (take_tabulate n m (λ k. f (suc k)) (omega arith))
 
 -- the codes at the newest one's place and below it, and those from the ring's end
-pub two_runs : (h : List ℤ) (base at near far : ℕ) → at < 64 → near ≤ at + 1 → (0 < far → near ≡ at + 1) → near + far ≤ 64
-    → sumZ (take (near + far) (ring h base at)) ≡ sumZ (take near (drop (base + at + 1 - near) h)) +ℤ sumZ (take far (drop (base + 64 - far) h))
+pub two_runs : (h : List ℤ) (at near far : ℕ) → at < 64 → near ≤ at + 1 → (0 < far → near ≡ at + 1) → near + far ≤ 64
+    → sumZ (take (near + far) (ring h 0 at)) ≡ sumZ (take near (drop (at + 1 - near) h)) +ℤ sumZ (take far (drop (64 - far) h))
 unfolding ring
-two_runs h base at near far l p q few =
-    let f : ℕ → ℤ = λ k. get_or h (base + (at + 64 - k) % 64) (pos 0) in
-    let run1 : sumZ (tabulate near f) ≡ sumZ (take near (drop (base + at + 1 - near) h)) =
-    run_down h (base + at + 1) near f (omega arith) (λ k r. ap (λ (n : ℕ). get_or h n (pos 0)) (omega arith)) in
-    let run2 : sumZ (tabulate far (λ k. f (near + k))) ≡ sumZ (take far (drop (base + 64 - far) h)) =
-    run_down h (base + 64) far (λ k. f (near + k)) (omega arith) (λ k r. let e = q (omega arith) in ap (λ (n : ℕ). get_or h n (pos 0)) (omega arith)) in
+two_runs h at near far l p q few =
+    let f : ℕ → ℤ = λ k. get_or h (0 + (at + 64 - k) % 64) (pos 0) in
+    let run1 : sumZ (tabulate near f) ≡ sumZ (take near (drop (at + 1 - near) h)) =
+    run_down h (at + 1) near f (omega arith) (λ k r. ap (λ (n : ℕ). get_or h n (pos 0)) (omega arith)) in
+    let run2 : sumZ (tabulate far (λ k. f (near + k))) ≡ sumZ (take far (drop (64 - far) h)) =
+    run_down h (64) far (λ k. f (near + k)) (omega arith) (λ k r. let e = q (omega arith) in ap (λ (n : ℕ). get_or h n (pos 0)) (omega arith)) in
     rw (take_tabulate (near + far) 64 f few, sum_split near far f, run1, run2)
 
 -- the two sums of the code are that of the window
-module _ (h : List ℤ) (base at window near : ℕ) (b : base ≤ 128) (l : at < 64) (w : 1 ≤ window) (x : window ≤ 64) (e : near ≡ min window (at + 1)) (s t : ℤ) where
+module _ (h : List ℤ) (at window near : ℕ) (l : at < 64) (w : 1 ≤ window) (x : window ≤ 64) (e : near ≡ min window (at + 1)) (s t : ℤ) where
   abbrev first : List ℤ
-  first = take (base + at + 1 - (base + at + 1 - near)) (drop (base + at + 1 - near) h)
+  first = take (at + 1 - (at + 1 - near)) (drop (at + 1 - near) h)
 
   abbrev second : List ℤ
-  second = take (base + 64 - (base + 64 - (window - near))) (drop (base + 64 - (window - near)) h)
+  second = take (64 - (64 - (window - near))) (drop (64 - (window - near)) h)
 
   module _ (p : s ≡ sumZ first) (q : mag s ≤ length first * 32768 - 1) (u : t ≡ sumZ second) (v : mag t ≤ length second * 32768 - 1) where
-    near_is : base + at + 1 - (base + at + 1 - near) ≡ near
+    near_is : at + 1 - (at + 1 - near) ≡ near
     near_is = omega arith
 
-    far_is : base + 64 - (base + 64 - (window - near)) ≡ window - near
+    far_is : 64 - (64 - (window - near)) ≡ window - near
     far_is = omega arith
 
     first_le : length first ≤ near
-    first_le = omega (arith, length-take (base + at + 1 - (base + at + 1 - near)) (drop (base + at + 1 - near) h))
+    first_le = omega (arith, length-take (at + 1 - (at + 1 - near)) (drop (at + 1 - near) h))
 
     second_le : length second ≤ window - near
-    second_le = omega (arith, length-take (base + 64 - (base + 64 - (window - near))) (drop (base + 64 - (window - near)) h))
+    second_le = omega (arith, length-take (64 - (64 - (window - near))) (drop (64 - (window - near)) h))
 
     no_second : (far : ℕ) → window - near ≡ far → far ≡ 0 → t ≡ pos 0
     unfolding sumZ
@@ -132,11 +132,11 @@ module _ (h : List ℤ) (base at window near : ℕ) (b : base ≤ 128) (l : at <
         let n : Reach t (suc far * 32768) = record { reach = omega (arith, second_le) } in
         omega (arith, (reach_add m n).reach)
 
-    pub both : (s +ℤ t ≡ sumZ (take window (ring h base at))) × (mag (s +ℤ t) < window * 32768)
+    pub both : (s +ℤ t ≡ sumZ (take window (ring h 0 at))) × (mag (s +ℤ t) < window * 32768)
     both =
         let k : near + (window - near) ≡ window = omega arith in
-        let r = two_runs h base at near (window - near) l (omega arith) (λ z. omega arith) (omega arith) in
-        (rw (p, u, near_is, far_is) (sym r ∙ ap (λ (n : ℕ). sumZ (take n (ring h base at))) k), both_le (window - near) refl)
+        let r = two_runs h at near (window - near) l (omega arith) (λ z. omega arith) (omega arith) in
+        (rw (p, u, near_is, far_is) (sym r ∙ ap (λ (n : ℕ). sumZ (take n (ring h 0 at))) k), both_le (window - near) refl)
 
 -- ---- the window as the code has it, a shift of 1
 pub window_is : (s : ℕ) → s ≤ 6 → 1 * 2 ^ s % 2 ^ 64 ≡ 2 ^ s

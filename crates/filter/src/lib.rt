@@ -13,7 +13,7 @@ struct Ring {
     count: u8,
 }
 
-// `history` holds the last 64 codes of each axis, axis * 64 and the place in its ring. The window is 2^shift.
+// `history` holds the last 64 codes of each axis, each at axis * 64 + its place in the ring. The window is 2^shift.
 #[derive(Clone, Copy)]
 pub struct Filter {
     history: [i16; 192],
@@ -68,24 +68,22 @@ fn sum_of(codes: &[i16]) -> i32
     total
 }
 
-// The sum of the last `window` codes of the ring from `base` on, whose newest stands at `at`: those at and below it, and the others
-// from the ring's end. A ring is a place of the flat history, as 01 and the definition `ring` have it.
-fn window_sum(history: &[i16; 192], base: usize, at: usize, window: usize) -> i32
-    requires { (base ≤ 128) × (at < 64) × (1 ≤ window) × (window ≤ 64) }
-    ensures { (result ≡ sumZ (take window (ring history.now base at))) × (mag result < window * 32768) }
+// The sum of the last `window` codes of a ring, whose newest stands at `at`: those at and below it, and the others from the ring's end.
+fn window_sum(codes: &[i16], at: usize, window: usize) -> i32
+    requires { (length codes.now ≡ 64) × (at < 64) × (1 ≤ window) × (window ≤ 64) }
+    ensures { (result ≡ sumZ (take window (ring codes.now 0 at))) × (mag result < window * 32768) }
 {
-    let end = base + at + 1;
     let near = window.min(at + 1);
     let far = window - near;
-    sum_of(&history[end - near..end]) + sum_of(&history[base + 64 - far..base + 64])
+    sum_of(&codes[at + 1 - near..at + 1]) + sum_of(&codes[64 - far..64])
 }
 
 // The floor of the mean of the last 2^shift codes of a ring.
-fn mean_of(history: &[i16; 192], base: usize, at: usize, shift: u8) -> i16
-    requires { (base ≤ 128) × (at < 64) × (shift ≤ 6) }
-    ensures { result ≡ mean (2 ^ shift) (ring history.now base at) }
+fn mean_of(codes: &[i16], at: usize, shift: u8) -> i16
+    requires { (length codes.now ≡ 64) × (at < 64) × (shift ≤ 6) }
+    ensures { result ≡ mean (2 ^ shift) (ring codes.now 0 at) }
 {
-    (window_sum(history, base, at, 1 << shift) >> shift) as i16
+    (window_sum(codes, at, 1 << shift) >> shift) as i16
 }
 
 impl Filter {
@@ -123,7 +121,7 @@ impl Filter {
     }
 
     // A code comes on an axis: the filter after it, and what it answers. 01 takes the filter by value; `take_code` below is the same where
-    // the filter is kept. The axis is a number, taken modulo 3: a type of three values would ask more of callers.
+    // the filter is kept. The axis is a number, taken modulo 3: a type of three values would narrow what a caller may hand in.
     pub fn push(mut self, axis: u8, code: i16) -> Pushed
         ensures filter_value { result.filter ≡ pushed self axis code }
         ensures code_value { result.code ≡ answered self axis code }
@@ -137,7 +135,7 @@ impl Filter {
         }
     }
 
-    // The same where the filter is kept: a code is answered by itself, or by the mean of a full window; and whether it is the mean.
+    // `push` on the filter where it is kept: answers the code, or the mean once the window is full, and whether it is the mean.
     pub fn take_code(&mut self, axis: u8, code: i16) -> (i16, bool)
         ensures filter_after { self.new ≡ pushed self.old axis code }
         ensures code_value { result.0 ≡ answered self.old axis code }
@@ -151,7 +149,8 @@ impl Filter {
         if ring.count < window_of(self.shift) {
             return (code, false);
         }
-        let mean = mean_of(&self.history, a * 64, place, self.shift.min(6));
+        let codes = &self.history[a * 64..a * 64 + 64];
+        let mean = mean_of(codes, place, self.shift.min(6));
         (mean, true)
     }
 }

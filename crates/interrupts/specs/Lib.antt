@@ -1,4 +1,5 @@
 pub mod Criteria
+pub mod Observations
 pub mod State
 pub mod Pin
 pub mod Theorems

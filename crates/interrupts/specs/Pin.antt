@@ -43,12 +43,12 @@ output s registers =
 unfoldable pub enables_motion : (byte : Byte) → Bool
 enables_motion byte = alert byte || any_motion byte
 
--- motion is enabled, and its history is not full or the last observation moved (the Rust's rule)
+-- motion is enabled, and no observation was compared yet or the last one moved (the Rust's rule)
 unfoldable pub verifying_motion : Interrupts → (registers : Registers) → Bool
 verifying_motion s registers =
     enable_adv_INT (at registers operation)
     && enables_motion (at registers criteria)
-    && (ltb s.observations 4 || s.motion.active)
+    && (ltb s.observations.count 4 || s.motion.active)
 
 -- an enabled criterion that is met
 unfoldable pub candidate : {h : ℕ} → Threshold h → (high enabled : Bool) → Bool

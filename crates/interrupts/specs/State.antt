@@ -1,11 +1,14 @@
 -- The interrupt state and its steps, under the names of the Rust's functions.
-use Rattle.std.specs.Prelude.{ℕ, ◌+◌, ◌-◌, ◌*◌, ◌%◌, min, Bool, true, false, not, ◌&&◌, ◌||◌, List, [], leb, ltb, eqb, get_or, set, replicate, ℤ, pos, nat_abs, ◌-ℤ◌, if◌then◌else◌}
+use Rattle.std.specs.Prelude.{ℕ, ◌+◌, ◌-◌, ◌*◌, ◌%◌, min, Bool, true, false, not, ◌&&◌, ◌||◌, List, leb, ltb, eqb, get_or, set, replicate, ℤ, pos, nat_abs, ◌-ℤ◌, if◌then◌else◌}
 use Rattle.laws.specs.Notation.{Registers}
 use Rattle.registers.specs.Map.{at, criteria, LG_thres, LG_dur, HG_thres, HG_dur, any_motion_thres, hysteresis, operation, alert, any_motion, enable_HG, enable_LG, counter_HG, counter_LG, any_motion_dur, HG_hyst, LG_hyst, enable_adv_INT}
 use Rattle.interrupts.specs.declared.threshold.Threshold.{Threshold}
 use Rattle.interrupts.specs.declared.motion.Motion.{Motion}
 use Rattle.interrupts.specs.declared.Interrupts.{Interrupts}
+use Rattle.interrupts.specs.declared.observations.Observations.{Observations}
 use Rattle.interrupts.specs.Criteria.{observe, tick, restarted, cleared}
+use Rattle.interrupts.specs.Observations as O
+use Rattle.interrupts.specs.Observations.{none, earlier, added}
 
 -- ---- parts set anew
 
@@ -13,9 +16,9 @@ use Rattle.interrupts.specs.Criteria.{observe, tick, restarted, cleared}
 abbrev pub with_thresholds : Interrupts → (low : Threshold 0) (high : Threshold 1) → Interrupts
 with_thresholds s low high = record s { low_g = low; high_g = high }
 
--- s with another history, cursor, number of observations and divider
-abbrev pub with_history : Interrupts → (history : List (List ℤ)) (cursor observations divider : ℕ) → Interrupts
-with_history s history cursor observations divider = record s { history = history; cursor = cursor; observations = observations; divider = divider }
+-- s with other observations and another divider
+abbrev pub with_observations : Interrupts → Observations → (divider : ℕ) → Interrupts
+with_observations s observations divider = record s { observations = observations; divider = divider }
 
 -- s with other counts and flags of motion
 abbrev pub with_motion : Interrupts → (set clear : ℕ) (active level latched : Bool) → Interrupts
@@ -36,9 +39,7 @@ abbrev pub new : Interrupts
 new = record {
   low_g = idle;
   high_g = idle;
-  history = replicate 3 (replicate 3 (pos 0));
-  cursor = 0;
-  observations = 0;
+  observations = none;
   divider = 0;
   motion = record { set = 0; clear = 0; active = false; level = false; latched = false };
   alert = false;
@@ -52,14 +53,14 @@ with_durations s alert registers = with_alert s alert (at registers LG_dur) (at 
 unfoldable pub configure : Interrupts → (registers : Registers) → Interrupts
 configure s registers = if s.alert then s else with_durations s s.alert registers
 
--- acquisition starts anew: history, levels and latches stay (the Rust's rule)
+-- acquisition starts anew: the observations' codes, levels and latches stay (the Rust's rule)
 unfoldable pub restart_acquisition : Interrupts → Interrupts
 restart_acquisition s =
     with_motion
-    (with_history (with_thresholds s (restarted s.low_g) (restarted s.high_g)) s.history s.cursor 0 0)
+    (with_observations (with_thresholds s (restarted s.low_g) (restarted s.high_g)) (O.restarted s.observations) 0)
     0 0 false s.motion.level s.motion.latched
 
--- reset_INT: counts, levels, latches and the alert are cleared; axes and history stay (the Rust's rule)
+-- reset_INT: counts, levels, latches and the alert are cleared; axes and observations stay (the Rust's rule)
 unfoldable pub reset : Interrupts → (registers : Registers) → Interrupts
 reset s registers =
     with_durations
@@ -77,14 +78,6 @@ axis s number code registers =
 
 -- ---- a cycle of codes on the three axes
 
--- where the observation three earlier stands, and the next one goes (specs/History.antt)
-abbrev pub place : Interrupts → ℕ
-place s = s.cursor % 3
-
--- the observation that stands there
-abbrev pub earlier : Interrupts → List ℤ
-earlier s = get_or s.history (place s) []
-
 -- a code differs from an earlier one by any_motion_thres × 4 or more (the Rust's rule)
 unfoldable pub moved : (new old : ℤ) (threshold : ℕ) → Bool
 moved new old threshold = leb (threshold * 4) (nat_abs (new -ℤ old))
@@ -96,9 +89,9 @@ moves earlier codes threshold =
     || moved (get_or codes 1 (pos 0)) (get_or earlier 1 (pos 0)) threshold
     || moved (get_or codes 2 (pos 0)) (get_or earlier 2 (pos 0)) threshold
 
--- an observation: with the fourth, three earlier ones stand
+-- an observation is kept
 abbrev pub record_codes : Interrupts → (codes : List ℤ) → Interrupts
-record_codes s codes = with_history s (set s.history (place s) codes) ((s.cursor % 3 + 1) % 3) (min 4 (s.observations + 1)) 0
+record_codes s codes = with_observations s (added s.observations codes) 0
 
 -- motion where acquisition starts anew (the Rust's rule)
 abbrev pub motion_restarted : Motion → Motion
@@ -147,15 +140,15 @@ decide s need registers =
 -- an observation is compared only from the fourth on
 unfoldable pub observation : Interrupts → (codes : List ℤ) (registers : Registers) (need : ℕ) → Interrupts
 observation s codes registers need =
-    if leb 3 s.observations
-    then decide (count_motion (record_codes s codes) (moves (earlier s) codes (at registers any_motion_thres))) need registers
+    if leb 3 s.observations.count
+    then decide (count_motion (record_codes s codes) (moves (earlier s.observations) codes (at registers any_motion_thres))) need registers
     else record_codes s codes
 
 -- one observation in `window` cycles; `needs` has 01's numbers in a row, 1, 3, 5 or 7, by any_motion_dur
 unfoldable pub cycle : Interrupts → (codes : List ℤ) (window : ℕ) (registers : Registers) (needs : List ℕ) → Interrupts
 cycle s codes window registers needs =
     if ltb (s.divider + 1) window
-    then with_history s s.history s.cursor s.observations (s.divider + 1)
+    then with_observations s s.observations (s.divider + 1)
     else observation s codes registers (get_or needs (any_motion_dur (at registers hysteresis)) 0)
 
 -- ---- a millisecond

@@ -3,6 +3,7 @@
 
 mod alert;
 pub mod motion;
+pub mod observations;
 mod pin;
 pub mod threshold;
 
@@ -10,18 +11,16 @@ ghost use Rattle.std.specs.Prelude.{◌≡◌};
 ghost use Rattle.interrupts.specs.State.{new, configure, restart_acquisition, reset, axis};
 
 use crate::motion::Motion;
+use crate::observations::Observations;
 use crate::threshold::{HighG, LowG};
 use registers::fields::{HG_DUR, HG_THRES, HYSTERESIS, LG_DUR, LG_THRES, hg_hyst, lg_hyst};
 
-// The two criteria; the last three observations, the place of the next and how many there were, side by side as in the Rust; the
-// divider of scans; what any motion has come to; and the alert.
+// The two criteria; the last three observations; the divider of scans; what any motion has come to; and the alert.
 #[derive(Clone, Copy, Debug, Default, PartialEq, Eq)]
 pub struct Interrupts {
     pub low_g: LowG,
     pub high_g: HighG,
-    pub history: [[i16; 3]; 3],
-    pub cursor: u8,
-    pub observations: u8,
+    pub observations: Observations,
     pub divider: u8,
     pub motion: Motion,
     pub alert: bool,
@@ -56,7 +55,7 @@ impl Interrupts {
         Interrupts {
             low_g: self.low_g.restarted(),
             high_g: self.high_g.restarted(),
-            observations: 0,
+            observations: self.observations.restarted(),
             divider: 0,
             motion: self.motion.restarted(),
             ..self
@@ -78,7 +77,7 @@ impl Interrupts {
         cleared.configure(registers)
     }
 
-    // A code on an axis, whose number is taken modulo 3: a type of three values would ask more of callers.
+    // A code on an axis, whose number is taken modulo 3: a type of three values would narrow what a caller may hand in.
     #[tactic(auto, unfolding(crate::specs::State::axis))]
     pub fn axis(self, number: u8, code: i16, registers: [u8; 62]) -> Interrupts
         ensures { result ≡ axis self number code registers }

@@ -105,15 +105,12 @@ impl Motion {
 }
 
 impl Interrupts {
-    // The observation takes the place of the one three earlier.
-    fn record_codes(mut self, codes: [i16; 3]) -> Interrupts
+    // An observation is kept, and cycles are counted anew.
+    fn record_codes(self, codes: [i16; 3]) -> Interrupts
         ensures { result ≡ record_codes self codes }
     {
-        let place = self.cursor % 3;
-        self.history[usize::from(place)] = codes;
         Interrupts {
-            cursor: (place + 1) % 3,
-            observations: self.observations.saturating_add(1).min(4),
+            observations: self.observations.added(codes),
             divider: 0,
             ..self
         }
@@ -149,17 +146,18 @@ impl Interrupts {
     }
 
     // An observation is compared only from the fourth on.
-    #[tactic(auto, unfolding(crate::specs::State::observation))]
+    #[tactic(auto, unfolding(crate::specs::Observations::compared_with, crate::specs::State::observation))]
     fn observation(self, codes: [i16; 3], registers: [u8; 62], need: u8) -> Interrupts
         ensures { result ≡ observation self codes registers need }
     {
         let recorded = self.record_codes(codes);
-        if self.observations < 3 {
-            return recorded;
+        match self.observations.compared_with() {
+            Some(earlier) => {
+                let active = moves(earlier, codes, registers[ANY_MOTION_THRES]);
+                recorded.count_motion(active).decide(need, registers)
+            }
+            None => recorded,
         }
-        let earlier = self.history[usize::from(self.cursor % 3)];
-        let active = moves(earlier, codes, registers[ANY_MOTION_THRES]);
-        recorded.count_motion(active).decide(need, registers)
     }
 
     // A cycle of codes on the three axes: one in `window` is an observation. `needs` has the number in a row by any_motion_dur.

@@ -88,7 +88,7 @@ impl Interrupts {
     {
         has(registers[OPERATION], ENABLE_ADV_INT)
             && enables_motion(registers[CRITERIA])
-            && (self.observations < 4 || self.motion.active)
+            && (self.observations.count < 4 || self.motion.active)
     }
 
     // A candidate is being verified, which keeps the sensor awake.

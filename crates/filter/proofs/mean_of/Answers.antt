@@ -8,7 +8,7 @@ use Rattle.filter.proofs.mean_of.Goals as goal
 pub window_sum-requires : goal.window_sum-requires
 window_sum-requires c = let s = c.args.shift in
     let six : s ≤ 6 = omega arith in
-    (omega arith, omega arith, rw (window_is s six) (pow_pos s), rw (window_is s six) (window_le s six))
+    (c.requires.0, omega arith, rw (window_is s six) (pow_pos s), rw (window_is s six) (window_le s six))
 
 pub returns : goal.returns
 unfolding mean
