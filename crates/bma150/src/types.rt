@@ -17,7 +17,7 @@ pub struct Replied<T> {
 impl<T> Replied<T> {
     // Another answer of an accepted call; the sensor and a refusal stay.
     #[tactic(auto, unfolding(calls::specs::Table::number))]
-    pub fn map<U, F: FnOnce(T) -> U>(self, f: F) -> Replied<U>
+    pub(crate) fn map<U, F: FnOnce(T) -> U>(self, f: F) -> Replied<U>
         requires { ForOk self.answer (F.pre f) }
         ensures cases { MatchResult self.answer (λ x. IsOkAnd result.answer (F.post f x)) (λ why. result.answer ≡ Err why) }
         ensures number { Table.number result.answer ≡ Table.number self.answer }
