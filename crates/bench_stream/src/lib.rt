@@ -1,8 +1,8 @@
-// The bench program's loop: standard input to standard output, a turn at a time. A turn reads, or serves the commands that are there and hands
-// their lines to `write`.
+// The bench program's loop: standard input to standard output, a turn at a time. A turn reads, or serves the commands that are there and writes
+// their lines to the output.
 #![tactic(auto)]
 
-ghost use Rattle.std.specs.Prelude.{◌≡◌, true, false, List, [], ℕ, Option, None};
+ghost use Rattle.std.specs.Prelude.{◌≡◌, Bool, true, false, List, [], ℕ, Option, None};
 ghost use Rattle.std.specs.Io.KnownBytes.{Keeps};
 ghost use Rattle.bench.specs.Block.{is_whole};
 ghost use Rattle.bench_stream.specs.Loop as S;
@@ -51,10 +51,10 @@ pub struct Turn {
 }
 
 // More input. A read of nothing is the input's end; a read that fails is not.
-fn more<R: Read>(input: &mut R, kept: &mut KeptBytes, trace: bool, t: Turn) -> Turn
+fn more<R: Read>(input: &mut R, kept: &mut KeptBytes, t: Turn) -> Turn
     requires going { S.goes_on t kept.old ≡ true }
     requires few { (t.over ≡ false) × (is_whole false kept.old ≡ false) }
-    ensures { (o : List ℕ) (v : Option (List ℕ)) → S.Stepped trace t kept.old result kept.new o (R.remaining input.old) (R.remaining input.new) v v }
+    ensures { (trace : Bool) (o : List ℕ) (v : Option (List ℕ)) → S.Stepped trace t kept.old result kept.new o (R.remaining input.old) (R.remaining input.new) v v }
 {
     match kept.fill(input) {
         Ok(got) => Turn {
@@ -68,7 +68,7 @@ fn more<R: Read>(input: &mut R, kept: &mut KeptBytes, trace: bool, t: Turn) -> T
     }
 }
 
-// A block on the kept bytes. Its text is handed to `write`; a write that fails ends the loop.
+// A block on the kept bytes, whose text is written to the output; a write that fails ends the loop.
 // `kept` and `out` stand apart here and below: a struct of the two would be made in `stream` only to be taken apart here.
 fn commands<W: Write>(
     output: &mut W,
@@ -106,7 +106,7 @@ fn step<R: Read, W: Write>(
     if t.over || is_whole(kept.bytes(), false) {
         commands(output, kept, out, trace, t)
     } else {
-        more(input, kept, trace, t)
+        more(input, kept, t)
     }
 }
 

@@ -70,14 +70,21 @@ impl Deadlines {
     }
 
     // The earliest of these, of the next sample and of the end of a stored write.
-    #[tactic(auto, unfolding(crate::specs::Deadlines::earliest, crate::specs::Deadlines::first), using(crate::proofs::Theorems::Earliest::sooner_never))]
     pub fn earliest(self, sample: Option<Time>, write: Option<Time>) -> Option<Time>
         ensures { result ≡ D.earliest self sample write }
     {
-        let ended = sooner(write, self.image);
-        let unheld = sooner(self.quiet, sooner(self.irq_hold, ended));
-        let awake = sooner(self.wake, sooner(self.pause, unheld));
-        sooner(self.serial_ready, sooner(sample, awake))
+        [
+            self.serial_ready,
+            sample,
+            self.wake,
+            self.pause,
+            self.quiet,
+            self.irq_hold,
+            write,
+            self.image,
+        ]
+        .into_iter()
+        .fold(None, sooner)
     }
 
     // Each wait later by the length of a supply drop; the wake, which begins anew, as it is.

@@ -15,7 +15,7 @@ pub enum Shadowed {
 
 // What the reads keep: the held pair of each axis, the last high byte of each, and the shadowed byte that is being sent (the Rust's
 // `tx_shadow` with its `tx_pair`). `release`, `forget` and `drop` each clear one of the three.
-#[derive(Clone, Copy, Debug, PartialEq, Eq)]
+#[derive(Clone, Copy, Debug, Default, PartialEq, Eq)]
 pub struct Reads {
     pub shadows: [Option<[u8; 2]>; 3],
     pub last_msb: [u8; 3],
@@ -37,7 +37,7 @@ pub fn is_acceleration(address: u8) -> bool
     (0x02..=0x07).contains(&address)
 }
 
-// The axis of an acceleration's address. A number, since any address has one: a type of three values would ask more of callers.
+// The axis of an acceleration's address. A number, since any address has one: a type of three values would narrow what a caller may hand in.
 pub fn axis_of(address: u8) -> u8
     ensures { result ≡ R.axis_of address }
 {
@@ -64,11 +64,7 @@ impl Reads {
     pub fn new() -> Reads
         ensures { result ≡ R.new }
     {
-        Reads {
-            shadows: [None; 3],
-            last_msb: [0; 3],
-            sending: None,
-        }
+        Reads::default()
     }
 
     // No pair is held any more.
@@ -126,11 +122,11 @@ impl Reads {
         Prepared { reads, byte }
     }
 
-    // The byte to send for a register that shows `viewed`; `now` are the two registers of the address's axis. A pair that is
+    // The byte to send for a register that shows `viewed`; `current` are the two registers of the address's axis. A pair that is
     // held for the axis comes before them, and a high byte without one is the last one of the axis.
     #[tactic(auto, unfolding(crate::specs::Reads::prepared, crate::specs::Reads::pair, crate::specs::Reads::high_byte), using(crate::specs::Theorems::Pairs::axis_lt))]
-    pub fn prepare(self, address: u8, viewed: u8, now: [u8; 2], shadowing: bool) -> Prepared
-        ensures { result ≡ R.prepared self address viewed (get_or now 0 0) (get_or now 1 0) shadowing }
+    pub fn prepare(self, address: u8, viewed: u8, current: [u8; 2], shadowing: bool) -> Prepared
+        ensures { result ≡ R.prepared self address viewed (get_or current 0 0) (get_or current 1 0) shadowing }
     {
         let reads = self.drop();
         if !is_shadowed(address, shadowing) {
@@ -142,7 +138,7 @@ impl Reads {
         let axis = usize::from(axis_of(address));
         let held = self.shadows[axis];
         if address % 2 == 0 {
-            return reads.prepare_low(held.unwrap_or(now));
+            return reads.prepare_low(held.unwrap_or(current));
         }
         reads.prepare_high(match held {
             Some(pair) => pair[1],

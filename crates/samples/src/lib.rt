@@ -2,6 +2,7 @@
 #![tactic(auto)]
 
 ghost use Rattle.std.specs.Prelude.{◌≡◌};
+ghost use Rattle.sensor.specs.Record.{automatic};
 ghost use Rattle.samples.specs.Samples as S;
 
 use control::lengths::needs;
@@ -9,6 +10,7 @@ use sampling::types::Acquisition;
 use sensor::types::Sensor;
 use time::Time;
 
+// `end`, and whether an edge at it counts: two values here and below, since the calls of the specification have them so.
 #[tactic(auto, unfolding(crate::specs::Samples::limit))]
 fn limit(end: Time, inclusive: bool) -> Time
     ensures { result ≡ S.limit end inclusive }
@@ -30,34 +32,32 @@ pub fn next_sample(sensor: Sensor) -> Option<Time>
     samples_run(sensor).then(|| sensor.sampling.clock.next())
 }
 
+// Samples are due calls in automatic mode only.
 #[tactic(auto, unfolding(crate::specs::Samples::sample_due))]
-fn sample_due(sensor: Sensor, samples: bool) -> Option<Time>
-    ensures { result ≡ S.sample_due sensor samples }
+fn sample_due(sensor: Sensor) -> Option<Time>
+    ensures { result ≡ S.sample_due sensor (automatic sensor) }
 {
-    if samples { next_sample(sensor) } else { None }
+    if sensor.automatic() {
+        next_sample(sensor)
+    } else {
+        None
+    }
 }
 
+// Next due.
 #[tactic(auto, unfolding(crate::specs::Samples::next_deadline, crate::specs::Samples::write_end))]
-fn next_deadline(sensor: Sensor, samples: bool) -> Option<Time>
-    ensures { result ≡ S.next_deadline sensor samples }
+pub fn interaction_deadline(sensor: Sensor) -> Option<Time>
+    ensures { result ≡ S.interaction_deadline sensor }
 {
     if sensor.is_off() {
         return None;
     }
-    let sample = sample_due(sensor, samples);
     let write = sensor.writing.map(|w| w.cycle.deadline());
-    sensor.deadlines.earliest(sample, write)
+    sensor.deadlines.earliest(sample_due(sensor), write)
 }
 
-// Next due.
-pub fn interaction_deadline(sensor: Sensor) -> Option<Time>
-    ensures { result ≡ S.interaction_deadline sensor }
-{
-    next_deadline(sensor, sensor.automatic())
-}
-
-// Advances the sample clock by n edges. The three parts that samples change go there and come back by name: as two conversions they
-// would be named four times more.
+// Advances the sample clock by n edges. The three parts that samples change come back by name: with `registers: after.registers` the
+// check has no proof, since it does not cover an array that is handed from a field straight to another.
 pub fn after_edges(sensor: Sensor, n: u64) -> Sensor
     ensures { result ≡ S.after_edges sensor n }
 {

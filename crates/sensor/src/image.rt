@@ -1,5 +1,6 @@
 // The stored image, the working image, and a sensor at its start.
-ghost use Rattle.std.specs.Prelude.{◌≡◌};
+ghost use Rattle.std.specs.Prelude.{◌≡◌, ◌-◌, if◌then◌else◌, Some, None};
+ghost use Rattle.registers.specs.Access as A;
 ghost use Rattle.sensor.specs.Image as Im;
 
 use crate::types::{Kept, Sensor, StoredWrite};
@@ -15,23 +16,30 @@ use sampling::types::{Input, Sampling};
 use spi::types::Frame;
 use time::{Clock, Duration, Time};
 
-// The place in the image is worked out here and in `with_cell`: a function for it would need a bound beside its equation.
+// The place of a stored byte in the image; there is none at another address.
+#[tactic(auto, unfolding(registers::specs::Access::stored))]
+fn place(address: u8) -> Option<usize>
+    ensures { result ≡ if A.stored address then Some (address - 0x2b) else None }
+{
+    stored(address).then(|| usize::from(address - 0x2b))
+}
+
 #[tactic(auto, unfolding(crate::specs::Image::cell_byte, registers::specs::Access::stored))]
 pub fn cell_byte(image: [u8; 19], address: u8) -> u8
     ensures { result ≡ Im.cell_byte image address }
 {
-    if stored(address) {
-        return image[usize::from(address - 0x2b)];
+    match place(address) {
+        Some(i) => image[i],
+        None => 0,
     }
-    0
 }
 
 #[tactic(auto, unfolding(crate::specs::Image::with_cell, registers::specs::Access::stored))]
 pub fn with_cell(mut image: [u8; 19], address: u8, value: u8) -> [u8; 19]
     ensures { result ≡ Im.with_cell image address value }
 {
-    if stored(address) {
-        image[usize::from(address - 0x2b)] = value;
+    if let Some(i) = place(address) {
+        image[i] = value;
     }
     image
 }
@@ -74,7 +82,7 @@ pub fn reset_registers() -> [u8; 62]
     r
 }
 
-// The stock image.
+// The stock image. A function and no constant: its contract names the image of the definition.
 pub fn stock() -> [u8; 19]
     ensures { result ≡ Im.stock }
 {
@@ -170,23 +178,17 @@ impl Sensor {
     }
 
     // The registers are these; what follows from them is set.
-    fn configured(self, registers: [u8; 62]) -> Sensor
+    fn configured(mut self, registers: [u8; 62]) -> Sensor
         ensures { result ≡ Im.configured self registers }
     {
-        let filter = self
+        self.registers = registers;
+        self.reads = shadowing(self.reads, registers[OPERATION]);
+        self.sampling.filter = self
             .sampling
             .filter
             .select(bandwidth(registers[MEASUREMENT]));
-        Sensor {
-            registers,
-            reads: shadowing(self.reads, registers[OPERATION]),
-            sampling: Sampling {
-                filter,
-                ..self.sampling
-            },
-            interrupts: self.interrupts.configure(registers),
-            ..self
-        }
+        self.interrupts = self.interrupts.configure(registers);
+        self
     }
 
     pub fn copy_image(self) -> Sensor

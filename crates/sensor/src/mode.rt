@@ -6,7 +6,6 @@ use crate::image::reset_registers;
 use crate::types::Sensor;
 use control::automatic::{Activity, holds, may_pause, pauses_again};
 use control::lengths::{acquisition_delay, pause_length, pauses};
-use deadlines::Deadlines;
 use filter::Filter;
 use i2c::types::State;
 use interrupts::Interrupts;
@@ -50,22 +49,17 @@ fn reset_time(asleep: bool) -> Duration
 }
 
 impl Sensor {
-    pub fn start_acquisition(self, now: Time, ready: Duration) -> Sensor
+    pub fn start_acquisition(mut self, now: Time, ready: Duration) -> Sensor
         ensures { result ≡ C.start_acquisition self now ready }
     {
         let scan = now.plus(acquisition_delay(ready));
         let bandwidth = bandwidth(self.registers[MEASUREMENT]);
-        Sensor {
-            reads: self.reads.release(),
-            sampling: acquiring(self.sampling, bandwidth, now),
-            deadlines: Deadlines {
-                pause: None,
-                wake: Some(scan),
-                ..self.deadlines
-            },
-            interrupts: self.interrupts.restart_acquisition(),
-            ..self
-        }
+        self.reads = self.reads.release();
+        self.sampling = acquiring(self.sampling, bandwidth, now);
+        self.deadlines.pause = None;
+        self.deadlines.wake = Some(scan);
+        self.interrupts = self.interrupts.restart_acquisition();
+        self
     }
 
     fn pause_of(self) -> Duration
@@ -81,25 +75,19 @@ impl Sensor {
         self.automatic().then(|| now.plus(self.pause_of()))
     }
 
-    pub fn pause(self, now: Time) -> Sensor
+    pub fn pause(mut self, now: Time) -> Sensor
         ensures { result ≡ C.pause self now }
     {
-        Sensor {
-            frame: self.frame.released(),
-            sampling: Sampling {
-                asleep: true,
-                ..self.sampling.hold(now, self.kept.input)
-            },
-            deadlines: Deadlines {
-                wake: None,
-                pause: self.pause_end(now),
-                ..self.deadlines
-            },
-            ..self
-        }
+        let end = self.pause_end(now);
+        self.frame = self.frame.released();
+        self.sampling = self.sampling.hold(now, self.kept.input);
+        self.sampling.asleep = true;
+        self.deadlines.wake = None;
+        self.deadlines.pause = end;
+        self
     }
 
-    // The hold of automatic mode, new data, or a criterion.
+    // The interrupt pin: automatic mode holds it, or new data or a criterion shows.
     #[tactic(auto, unfolding(crate::specs::Mode::interrupt, deadlines::specs::Deadlines::is_set))]
     pub fn interrupt(self) -> bool
         ensures { result ≡ C.interrupt self }
@@ -133,19 +121,13 @@ impl Sensor {
     }
 
     #[tactic(auto, unfolding(crate::specs::Mode::interrupt_held))]
-    fn interrupt_held(self, now: Time, was_criterion: bool) -> Sensor
+    fn interrupt_held(mut self, now: Time, was_criterion: bool) -> Sensor
         ensures { result ≡ C.interrupt_held self now was_criterion }
     {
         let latch = has(self.registers[OPERATION], LATCH_INT);
         if holds(was_criterion, latch, self.criterion()) {
             let end = now.plus(Duration::from_micros(330));
-            return Sensor {
-                deadlines: Deadlines {
-                    irq_hold: Some(end),
-                    ..self.deadlines
-                },
-                ..self
-            };
+            self.deadlines.irq_hold = Some(end);
         }
         self
     }
@@ -188,17 +170,12 @@ impl Sensor {
         self
     }
 
-    fn automatic_off(self) -> Sensor
+    fn automatic_off(mut self) -> Sensor
         ensures { result ≡ C.automatic_off self }
     {
-        Sensor {
-            deadlines: Deadlines {
-                irq_hold: None,
-                pause: None,
-                ..self.deadlines
-            },
-            ..self
-        }
+        self.deadlines.irq_hold = None;
+        self.deadlines.pause = None;
+        self
     }
 
     #[tactic(auto, unfolding(crate::specs::Mode::automatic_control))]
@@ -214,35 +191,26 @@ impl Sensor {
         self.automatic_off()
     }
 
-    fn reloaded(self) -> Sensor
+    fn reloaded(mut self) -> Sensor
         ensures { result ≡ C.reloaded self }
     {
-        let registers = reset_registers();
-        let s = Sensor {
-            registers,
-            i2c: State::new(),
-            interrupts: Interrupts::new(),
-            ..self
-        };
-        s.copy_image()
+        self.registers = reset_registers();
+        self.i2c = State::new();
+        self.interrupts = Interrupts::new();
+        self.copy_image()
     }
 
-    fn quieted(self, now: Time) -> Sensor
+    fn quieted(mut self, now: Time) -> Sensor
         ensures { result ≡ C.quieted self now }
     {
         let end = now.plus(Duration::from_micros(10));
-        Sensor {
-            frame: self.frame.sending(None).released(),
-            reads: self.reads.forget(),
-            sampling: cleared(self.sampling, now),
-            deadlines: Deadlines {
-                irq_hold: None,
-                image: None,
-                quiet: Some(end),
-                ..self.deadlines
-            },
-            ..self
-        }
+        self.frame = self.frame.sending(None).released();
+        self.reads = self.reads.forget();
+        self.sampling = cleared(self.sampling, now);
+        self.deadlines.irq_hold = None;
+        self.deadlines.image = None;
+        self.deadlines.quiet = Some(end);
+        self
     }
 
     pub fn soft_reset(self, now: Time) -> Sensor

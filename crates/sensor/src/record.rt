@@ -48,7 +48,7 @@ impl Sensor {
         self.outage.is_some()
     }
 
-    // This and the next two name one wait each; one function of the wait's name would match it back to its field.
+    // This and the next two name one wait each; one function would take the wait's name and match it back to the field.
     #[tactic(auto, unfolding(deadlines::specs::Deadlines::is_set))]
     pub fn serial_not_ready(self) -> bool
         ensures { result ≡ Rec.serial_not_ready self }

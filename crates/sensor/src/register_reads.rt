@@ -8,7 +8,6 @@ use crate::types::{Fetched, Mark, Sensor, Viewed};
 use reads::{Prepared, axis_of, is_acceleration, without_new_data};
 use registers::access::withheld;
 use registers::fields::{OPERATION, SHADOW_DIS, STATUS, has};
-use sampling::types::Sampling;
 
 // The address of the low byte of an acceleration.
 fn low_address(address: u8) -> u8
@@ -85,41 +84,32 @@ impl Sensor {
     }
 
     #[tactic(auto, unfolding(crate::specs::RegisterReads::fetched))]
-    pub fn prepare_read(self, address: u8) -> Fetched
+    pub fn prepare_read(mut self, address: u8) -> Fetched
         ensures { result ≡ B.prepare_read self address }
     {
         let Some(byte) = self.peek(address) else {
+            self.reads = self.reads.drop();
             return Fetched {
-                sensor: Sensor {
-                    reads: self.reads.drop(),
-                    ..self
-                },
+                sensor: self,
                 sent: None,
             };
         };
         let p = self.prepared(address, byte);
+        self.reads = p.reads;
         Fetched {
-            sensor: Sensor {
-                reads: p.reads,
-                ..self
-            },
+            sensor: self,
             sent: Some(p.byte),
         }
     }
 
-    fn acceleration_read(self, address: u8, sent: u8) -> Sensor
+    fn acceleration_read(mut self, address: u8, sent: u8) -> Sensor
         ensures { result ≡ B.acceleration_read self address sent }
     {
         let low = low_address(address);
         let byte = without_new_data(byte_at(self.registers, low));
-        Sensor {
-            reads: self.reads.read_began(address, sent),
-            sampling: Sampling {
-                data_ready: false,
-                ..self.sampling
-            },
-            ..self.put(low, byte)
-        }
+        self.reads = self.reads.read_began(address, sent);
+        self.sampling.data_ready = false;
+        self.put(low, byte)
     }
 
     #[tactic(auto, unfolding(crate::specs::RegisterReads::counts_as_read))]

@@ -120,7 +120,7 @@ fn waits_served(sensor: Sensor, now: Time) -> Served
     let w = write_ended(p, now);
     Served {
         sensor: wake_ended(image_ended(w.sensor, now), now),
-        report: w.report,
+        ..w
     }
 }
 
@@ -147,6 +147,6 @@ pub fn at_deadline(sensor: Sensor, now: Time) -> Served
     let w = waits_served(sensor, now);
     Served {
         sensor: sample_served(w.sensor, now, was, hold),
-        report: w.report,
+        ..w
     }
 }

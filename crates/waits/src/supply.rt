@@ -67,7 +67,7 @@ fn power_off(sensor: Sensor, now: Time, cold: bool) -> Served
     let c = cut(held(sensor, now), now);
     Served {
         sensor: off(c.sensor, now, cold),
-        report: c.report,
+        ..c
     }
 }
 

@@ -1,6 +1,6 @@
 -- The earliest deadline is one of the list, at or before each, and none only where no one is set.
-use Rattle.std.specs.Prelude.{◌≡◌, refl, Bool, cond, not, ◌⊎◌, ℕ, leb, ltb, Option, Some, None}
-use Rattle.std.proofs.Common.{sym, inl, inr, ⊎_elim, arith}
+use Rattle.std.specs.Prelude.{◌≡◌, refl, Bool, cond, not, ◌⊎◌, ℕ, fold, leb, ltb, Option, Some, None}
+use Rattle.std.proofs.Common.{sym, ◌∙◌, inl, inr, ⊎_elim, arith}
 use Rattle.std.proofs.Math.Bool.{true, false}
 use mathlib.Core.List.Memᴰ
 use mathlib.Core.List.{List, [], ◌∷◌, Memᴰ}
@@ -75,7 +75,33 @@ sooner_by_right None e v p = p
 sooner_by_right (Some t) None v p = absurd (never_by None v refl p)
 sooner_by_right (Some t) (Some u) v p = by_later _ u v (by_both t u (precedes u t) refl).1 p
 
+-- of three it does not matter which two are compared first
+module _ (t u v : Time) where
+  three : (p q r : Bool) → precedes u t ≡ p → precedes v u ≡ q → precedes v t ≡ r → sooner (cond p (Some u) (Some t)) (Some v) ≡ sooner (Some t) (cond q (Some v) (Some u))
+  unfolding sooner
+  three true true true e f g = rw (f, g) refl
+  three true true false e f g =
+      absurd (omega (arith, ltb-true (ticks u) (ticks t) e, ltb-true (ticks v) (ticks u) f, ltb-false (ticks v) (ticks t) g))
+  three true false r e f g = rw (f, e) refl
+  three false true r e f g = refl
+  three false false true e f g =
+      absurd (omega (arith, ltb-false (ticks u) (ticks t) e, ltb-false (ticks v) (ticks u) f, ltb-true (ticks v) (ticks t) g))
+  three false false false e f g = rw (g, e) refl
+
+pub sooner_of_three : (c d e : Option Time) → sooner (sooner c d) e ≡ sooner c (sooner d e)
+unfolding sooner
+sooner_of_three None d e = refl
+sooner_of_three (Some t) None e = refl
+sooner_of_three (Some t) (Some u) None = sooner_never (cond (precedes u t) (Some u) (Some t))
+sooner_of_three (Some t) (Some u) (Some v) = three t u v (precedes u t) (precedes v u) (precedes v t) refl refl refl
+
 -- ---- the first of a list
+
+-- it is what is left where each is compared in turn with the sooner of those before it
+pub first_in_turn : (d : Option Time) (ds : List (Option Time)) → fold sooner d ds ≡ sooner d (first ds)
+unfolding first
+first_in_turn d [] = sym (sooner_never d)
+first_in_turn d (e ∷ ds) = first_in_turn (sooner d e) ds ∙ sooner_of_three d e (first ds)
 
 -- it is one of it
 pub first_is_one : (d : Option Time) (ds : List (Option Time)) → Memᴰ (first (d ∷ ds)) (d ∷ ds)
