@@ -97,7 +97,7 @@ two_runs h at near far l p q few =
     let run1 : sumZ (tabulate near f) ≡ sumZ (take near (drop (at + 1 - near) h)) =
     run_down h (at + 1) near f (omega arith) (λ k r. ap (λ (n : ℕ). get_or h n (pos 0)) (omega arith)) in
     let run2 : sumZ (tabulate far (λ k. f (near + k))) ≡ sumZ (take far (drop (64 - far) h)) =
-    run_down h (64) far (λ k. f (near + k)) (omega arith) (λ k r. let e = q (omega arith) in ap (λ (n : ℕ). get_or h n (pos 0)) (omega arith)) in
+    run_down h 64 far (λ k. f (near + k)) (omega arith) (λ k r. let e = q (omega arith) in ap (λ (n : ℕ). get_or h n (pos 0)) (omega arith)) in
     rw (take_tabulate (near + far) 64 f few, sum_split near far f, run1, run2)
 
 -- the two sums of the code are that of the window

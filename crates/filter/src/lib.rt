@@ -21,7 +21,8 @@ pub struct Filter {
     shift: u8,
 }
 
-// A filter after a code, and its answer: `full` says that it is the mean of a full window, else it is the code itself.
+// A filter after a code, and its answer: `full` says that it is the mean of a full window, else it is the code itself. A flag and no
+// enum: the code is an answer either way. The sensor keeps it (`means`), and a view tells it (`Mark`).
 #[derive(Clone, Copy)]
 pub struct Pushed {
     pub filter: Filter,
