@@ -181,6 +181,7 @@ impl<T: Copy> Axes<T> {
         }
     }
 
+    // Another value for the axis of a number, which is one as in `axis`.
     #[tactic(auto, unfolding(crate::specs::Axis::with_axis))]
     pub fn with_axis(self, axis: u8, a: T) -> Axes<T>
         ensures { result ≡ Ax.with_axis self axis a }

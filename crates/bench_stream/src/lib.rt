@@ -69,7 +69,7 @@ fn more<R: Read>(input: &mut R, kept: &mut KeptBytes, t: Turn) -> Turn
 }
 
 // A block on the kept bytes, whose text is written to the output; a write that fails ends the loop.
-// `kept` and `out` stand apart here and below: a struct of the two would be made in `stream` only to be taken apart here.
+// `kept`, `out` and `trace` stand apart here and below: a struct of them would be made in `stream` only to be taken apart here.
 fn commands<W: Write>(
     output: &mut W,
     kept: &mut KeptBytes,

@@ -70,6 +70,7 @@ fn sum_of(codes: &[i16]) -> i32
 }
 
 // The sum of the last `window` codes of a ring, whose newest stands at `at`: those at and below it, and the others from the ring's end.
+// A ring has no first place, so that of its newest comes with it, here and in `mean_of`.
 fn window_sum(codes: &[i16], at: usize, window: usize) -> i32
     requires { (length codes.now ≡ 64) × (at < 64) × (1 ≤ window) × (window ≤ 64) }
     ensures { (result ≡ sumZ (take window (ring codes.now 0 at))) × (mag result < window * 32768) }

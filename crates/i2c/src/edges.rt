@@ -12,7 +12,7 @@ fn data_moves(before: Levels, after: Levels) -> bool
     before.scl && after.scl && before.sda != after.sda
 }
 
-// The event that takes the lines from `before` to `after`.
+// The event that takes the lines from `before` to `after`. They stand apart here and above, since the call of 01 has them so.
 #[tactic(auto, unfolding(crate::specs::Bus::data_moves, crate::specs::Bus::edge))]
 pub fn edge(before: Levels, after: Levels) -> Edge
     ensures { result ≡ B.edge before after }

@@ -55,7 +55,7 @@ fn silenced(quiet: bool, phase: Phase) -> bool
     quiet && !matches!(phase, Phase::Acknowledge(_, _))
 }
 
-// The register pointer after bit n was taken: past the last it moves on modulo 128.
+// The register pointer after bit n was taken: past the last it moves on modulo 128 (so does SPI's address, `completed` of `spi`).
 #[tactic(auto, unfolding(crate::specs::Engine::pointer_after))]
 fn pointer_after(pointer: u8, n: u8) -> u8
     ensures { result ≡ E.pointer_after pointer n }
