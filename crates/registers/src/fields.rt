@@ -1,5 +1,6 @@
 // Registers by address, and the fields of a register's byte: those of one bit by number, through `has`. Constants and no enums: an
-// address is an index and a bit's number an amount to shift by, so each use of an enum would begin by casting it back.
+// address is an index and a bit's number an amount to shift by, so each use of an enum would begin by casting it back. The registers are
+// `[u8; 62]` and an image is `[u8; 19]` where they are named: an alias would not reach the definitions, which have words of their own.
 ghost use Rattle.std.specs.Prelude.{◌≡◌, ◌/◌, ◌%◌, ◌^◌, ◌<◌};
 ghost use Rattle.laws.specs.Bytes.{bit};
 ghost use Rattle.registers.specs.Map.{counter_HG, counter_LG, any_motion_dur, HG_hyst, LG_hyst, range, bandwidth, wake_up_pause};

@@ -39,7 +39,8 @@ pub struct Frame {
     pub turnaround: bool,
 }
 
-// The frame after a bit, and the register write that the bit completed: address and value.
+// The frame after a bit, and the register write that the bit completed: address and value. Without a write it is written out where it is
+// made, three times: a conversion from a frame would not say that there is none.
 #[derive(Clone, Copy, PartialEq, Eq)]
 pub struct Taken {
     pub frame: Frame,
