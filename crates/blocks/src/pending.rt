@@ -1,4 +1,4 @@
-// The bytes that are yet to be written.
+// The bytes that are yet to be written. Their list is the model, as of the bench's `Line`: a type has to say its own.
 ghost use Rattle.std.specs.Prelude.{◌≡◌, ◌≤◌, [], length, OnOk};
 ghost use Rattle.std.specs.Io.KnownBytes.{Appends};
 ghost use Rattle.blocks.specs.Pending.{Handed};
