@@ -11,7 +11,8 @@ use Rattle.calls.specs.declared.types.Call.{Call}
 use Rattle.calls.specs.declared.types.Starting.{Starting}
 use Rattle.calls.specs.Table.{refusal, start_refusal, unless_refused}
 use Rattle.sensor.specs.declared.types.Sensor.{Sensor}
-use Rattle.sensor.specs.Record.{with_lines}
+use Rattle.sensor.specs.Record.{with_kept, with_temperature, with_lines}
+use Rattle.sensor.specs.declared.types.Kept.{Kept}
 use Rattle.sensor.specs.Image.{nonvolatile, from_nonvolatile, stock}
 use Rattle.sensor.specs.Mode as Mode
 use Rattle.sensor.specs.declared.types.Viewed.{Viewed}
@@ -23,7 +24,7 @@ use Rattle.serial.specs.SpiEdges.{rising_at, falling_at}
 use Rattle.serial.specs.I2cPins.{i2c_pins_at}
 use Rattle.waits.specs.declared.types.Report.{Report}
 use Rattle.waits.specs.declared.types.Served.{Served}
-use Rattle.waits.specs.Supply.{without_report, set_supply, set_input, set_temperature}
+use Rattle.waits.specs.Supply.{without_report, set_supply, set_input}
 use Rattle.waits.specs.Due.{at_deadline}
 use Rattle.bma150.specs.declared.host.Bma150.{Bma150}
 use Rattle.bma150.specs.Values.{report_values, view_value, mark_letter}
@@ -96,13 +97,28 @@ timed_adds (Timed.Pins before after) r = Added.nothing
 abbrev pub served : Bma150 → (now : Time) → Timed → Served
 served s now t = effect (sync_local_until s.sensor now false) now t
 
+-- what a call acts on: the sensor at a moment, the select pin, or no more than what a loss of supply leaves alone
+pub data Acts : Type 0 where
+  timed : Time → Timed → Acts
+  select : Bool → Acts
+  keeps : (Kept → Kept) → Acts
+
+-- 01: temperature, select, view and stored image are no timed calls; view and stored image change nothing
+abbrev pub acts : Call → Acts
+acts (Call.At now t) = Acts.timed now t
+acts (Call.Temperature x) = Acts.keeps (with_temperature x)
+acts (Call.Select on) = Acts.select on
+acts (Call.View address) = Acts.keeps (λ k. k)
+acts (Call.StoredImage now n) = Acts.keeps (λ k. k)
+
 -- the sensor left; a timed call's time is then the last accepted one
+abbrev pub left_by : Bma150 → Acts → Bma150
+left_by s (Acts.timed now t) = record { sensor = (served s now t).sensor; last = now }
+left_by s (Acts.select on) = record s { sensor = set_selected s.sensor on }
+left_by s (Acts.keeps f) = record s { sensor = with_kept s.sensor (f s.sensor.kept) }
+
 unfoldable pub leaves : Bma150 → Call → Bma150
-leaves s (Call.At now t) = record { sensor = (served s now t).sensor; last = now }
-leaves s (Call.Temperature x) = record { sensor = set_temperature s.sensor x; last = s.last }
-leaves s (Call.Select on) = record { sensor = set_selected s.sensor on; last = s.last }
-leaves s (Call.View address) = s
-leaves s (Call.StoredImage now n) = s
+leaves s c = left_by s (acts c)
 
 unfoldable pub adds : Bma150 → Call → Added
 adds s (Call.At now t) = timed_adds t (served s now t).report

@@ -10,9 +10,10 @@ use Rattle.i2c.specs.Engine as E
 use Rattle.spi.specs.Frame as F
 use Rattle.calls.specs.declared.types.Timed.{Timed}
 use Rattle.calls.specs.declared.types.Call.{Call}
+use Rattle.bma150.specs.Called.{Acts, acts}
 use Rattle.sensor.specs.declared.types.Kept.{Kept}
 use Rattle.sensor.specs.declared.types.Sensor.{Sensor}
-use Rattle.sensor.specs.Record.{with_input, lines_kept, is_quiet, four_wire}
+use Rattle.sensor.specs.Record.{with_acceleration, lines_kept, is_quiet, four_wire}
 use Rattle.samples.specs.Samples.{sync_local_until}
 use Rattle.serial.specs.SpiEdges.{spi_listens, rise_synced}
 use Rattle.serial.specs.I2cPins.{i2c_listens, ones_for, pins_synced}
@@ -74,12 +75,6 @@ supplying now rail = record { time = Some now; keeps = λ k. k; rail = Some rail
 abbrev pub asking : (now : Time) (asks : Sensor → Asked) → Does
 asking now asks = record { time = Some now; keeps = λ k. k; rail = None; asks = asks }
 
-abbrev pub with_acceleration : Acceleration → Kept → Kept
-with_acceleration input k = with_input k (record { acceleration = input; temperature_millicelsius = k.input.temperature_millicelsius })
-
-abbrev pub with_temperature : ℤ → Kept → Kept
-with_temperature t k = with_input k (record { acceleration = k.input.acceleration; temperature_millicelsius = t })
-
 abbrev pub rise_asks : (now : Time) (mosi : Bool) → Sensor → Asked
 rise_asks now mosi s = record { write = spi_write (at_rise s now) mosi; meets = at_rise s now }
 
@@ -94,9 +89,10 @@ timed_does now (Timed.Rising mosi) = asking now (rise_asks now mosi)
 timed_does now Timed.Falling = timed now
 timed_does now (Timed.Pins before after) = record { time = Some now; keeps = λ k. lines_kept k after; rail = None; asks = pins_ask now before after }
 
+abbrev pub act_does : Acts → Does
+act_does (Acts.timed now t) = timed_does now t
+act_does (Acts.select on) = untimed (λ k. k)
+act_does (Acts.keeps f) = untimed f
+
 unfoldable pub does : Call → Does
-does (Call.At now t) = timed_does now t
-does (Call.Temperature x) = untimed (with_temperature x)
-does (Call.Select on) = untimed (λ k. k)
-does (Call.View address) = untimed (λ k. k)
-does (Call.StoredImage now length) = untimed (λ k. k)
+does c = act_does (acts c)

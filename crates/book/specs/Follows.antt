@@ -6,6 +6,7 @@ use Rattle.i2c.specs.declared.types.Edge.TheVariants as Edge
 use Rattle.i2c.specs.Bus.{edge}
 use Rattle.calls.specs.declared.types.Timed.{Timed}
 use Rattle.calls.specs.declared.types.Call.{Call}
+use Rattle.bma150.specs.Called.{Acts, acts}
 use Rattle.book.specs.Lists.{Start, started, accepts, after, accepted}
 
 -- ---- the levels of the lines, told from the calls alone
@@ -19,12 +20,13 @@ timed_levels (Timed.Rising mosi) before = before
 timed_levels Timed.Falling before = before
 timed_levels (Timed.Pins from to) before = to
 
+abbrev pub act_levels : Acts → (before : Levels) → Levels
+act_levels (Acts.timed now t) before = timed_levels t before
+act_levels (Acts.select on) before = before
+act_levels (Acts.keeps f) before = before
+
 unfoldable pub call_levels : Call → (before : Levels) → Levels
-call_levels (Call.At now t) before = timed_levels t before
-call_levels (Call.Temperature x) before = before
-call_levels (Call.Select on) before = before
-call_levels (Call.View address) before = before
-call_levels (Call.StoredImage now length) before = before
+call_levels c before = act_levels (acts c) before
 
 unfoldable pub last_levels : (before : Levels) → List Call → Levels
 last_levels before [] = before

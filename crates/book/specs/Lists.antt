@@ -9,7 +9,7 @@ use Rattle.sensor.specs.declared.types.Kept.{Kept}
 use Rattle.sensor.specs.Image.{new_kept}
 use Rattle.samples.specs.Samples.{interaction_deadline}
 use Rattle.bma150.specs.declared.host.Bma150.{Bma150}
-use Rattle.bma150.specs.Called.{Added, number, called, start_number, after_start, interrupt, output, data_output}
+use Rattle.bma150.specs.Called.{Acts, acts, Added, number, called, start_number, after_start, interrupt, output, data_output}
 use Rattle.book.specs.Does.{does}
 
 -- ---- the fraction of a pin call's time is a 64-bit word, as its type has it; no other argument is bounded
@@ -22,12 +22,13 @@ FitsTimed now (Timed.Rising mosi) = now.1 < 2 ^ 64
 FitsTimed now Timed.Falling = Unit {0}
 FitsTimed now (Timed.Pins before after) = now.1 < 2 ^ 64
 
+abbrev pub ActFits : Acts → Type 0
+ActFits (Acts.timed now t) = FitsTimed now t
+ActFits (Acts.select on) = Unit {0}
+ActFits (Acts.keeps f) = Unit {0}
+
 abbrev pub Fits : Call → Type 0
-Fits (Call.At now t) = FitsTimed now t
-Fits (Call.Temperature x) = Unit {0}
-Fits (Call.Select on) = Unit {0}
-Fits (Call.View address) = Unit {0}
-Fits (Call.StoredImage now length) = Unit {0}
+Fits c = ActFits (acts c)
 
 abbrev pub Fractions : List Call → Type 0
 Fractions [] = Unit {0}

@@ -3,6 +3,7 @@ use Rattle.std.specs.Prelude.{◌≡◌, Bool, true, false, List, [], ◌∷◌,
 use Rattle.i2c.specs.declared.types.Levels.{Levels}
 use Rattle.calls.specs.declared.types.Timed.{Timed}
 use Rattle.calls.specs.declared.types.Call.{Call}
+use Rattle.bma150.specs.Called.{Acts, acts}
 use Rattle.calls.specs.Table.{same_levels}
 
 -- one call, by what it makes of the pins; none where it does not fit
@@ -35,12 +36,13 @@ spi_edge p Timed.Falling = if p.clock then Some (spi p.selected false) else None
 spi_edge p (Timed.Pins before after) = None
 
 -- a call of SPI: select or an edge; no other call fits
+abbrev pub spi_act : SpiPins → Acts → Option SpiPins
+spi_act p (Acts.timed now t) = spi_edge p t
+spi_act p (Acts.select on) = Some (spi on p.clock)
+spi_act p (Acts.keeps f) = None
+
 unfoldable pub spi_call : SpiPins → Call → Option SpiPins
-spi_call p (Call.At now t) = spi_edge p t
-spi_call p (Call.Temperature x) = None
-spi_call p (Call.Select on) = Some (spi on p.clock)
-spi_call p (Call.View address) = None
-spi_call p (Call.StoredImage now length) = None
+spi_call p c = spi_act p (acts c)
 
 -- a list of SPI calls alone, from the pins at rest to the selected sensor with its clock high
 abbrev pub OverSpi : List Call → Type 0
@@ -62,12 +64,13 @@ i2c_report l Timed.Falling = None
 i2c_report l (Timed.Pins before after) = if same_levels l before then Some after else None
 
 -- a call of I2C: a report; no other call fits
+abbrev pub i2c_act : Levels → Acts → Option Levels
+i2c_act l (Acts.timed now t) = i2c_report l t
+i2c_act l (Acts.select on) = None
+i2c_act l (Acts.keeps f) = None
+
 unfoldable pub i2c_call : Levels → Call → Option Levels
-i2c_call l (Call.At now t) = i2c_report l t
-i2c_call l (Call.Temperature x) = None
-i2c_call l (Call.Select on) = None
-i2c_call l (Call.View address) = None
-i2c_call l (Call.StoredImage now length) = None
+i2c_call l c = i2c_act l (acts c)
 
 -- a list of I2C reports alone, from both lines high to both low after a byte's ninth clock
 abbrev pub OverI2c : List Call → Type 0

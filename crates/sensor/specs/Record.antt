@@ -1,7 +1,8 @@
 -- The sensor record with one part replaced, and short views of it.
 use Rattle.sensor.specs.Operation.{Operation}
-use Rattle.std.specs.Prelude.{ℕ, Bool, true, false, List, set, Option, Some, None}
+use Rattle.std.specs.Prelude.{ℕ, ℤ, Bool, true, false, List, set, Option, Some, None}
 use Rattle.laws.specs.Notation.{Byte, Address, Registers}
+use Rattle.analog.specs.Axis.{Acceleration}
 use Rattle.filter.specs.declared.Filter.{Filter}
 use Rattle.interrupts.specs.declared.Interrupts.{Interrupts}
 use Rattle.i2c.specs.declared.types.Levels.{Levels}
@@ -57,6 +58,13 @@ with_outage s x = record s { outage = x }
 -- what is kept, with another acceleration and temperature
 abbrev pub with_input : Kept → Input → Kept
 with_input k input = record k { input = input }
+
+-- with another acceleration, and with another temperature
+abbrev pub with_acceleration : Acceleration → Kept → Kept
+with_acceleration acceleration k = with_input k (record k.input { acceleration = acceleration })
+
+abbrev pub with_temperature : (millicelsius : ℤ) → Kept → Kept
+with_temperature millicelsius k = with_input k (record k.input { temperature_millicelsius = millicelsius })
 
 -- and with other levels after the last accepted pin report
 abbrev pub lines_kept : Kept → Levels → Kept

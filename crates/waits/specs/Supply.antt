@@ -13,7 +13,7 @@ use Rattle.waits.specs.declared.types.Report.{Report}
 use Rattle.waits.specs.declared.types.Served.{Served}
 use Rattle.sensor.specs.declared.types.Outage.{Outage}
 use Rattle.sensor.specs.declared.types.Sensor.{Sensor}
-use Rattle.sensor.specs.Record.{with_nonvolatile, with_i2c, with_sampling, with_kept, with_input, with_deadlines, with_writing, with_outage, is_off}
+use Rattle.sensor.specs.Record.{with_nonvolatile, with_i2c, with_sampling, with_kept, with_acceleration, with_temperature, with_deadlines, with_writing, with_outage, is_off}
 use Rattle.sensor.specs.Image.{byte_at, with_cell, power_on}
 use Rattle.sensor.specs.Mode.{start_acquisition}
 use Rattle.sensor.specs.Select.{set_selected}
@@ -91,7 +91,7 @@ unfoldable pub turned : Sensor → (input : Acceleration) (now : Time) → Sampl
 turned s input now = if is_off s then s.sampling else Stage.turned s.sampling now s.kept.input.acceleration input
 
 abbrev pub set_input : Sensor → (input : Acceleration) (now : Time) → Sensor
-set_input s input now = with_kept (with_sampling s (turned s input now)) (with_input s.kept (record { acceleration = input; temperature_millicelsius = s.kept.input.temperature_millicelsius }))
+set_input s input now = with_kept (with_sampling s (turned s input now)) (with_acceleration input s.kept)
 
-abbrev pub set_temperature : Sensor → ℤ → Sensor
-set_temperature s t = with_kept s (with_input s.kept (record { acceleration = s.kept.input.acceleration; temperature_millicelsius = t }))
+abbrev pub set_temperature : Sensor → (millicelsius : ℤ) → Sensor
+set_temperature s millicelsius = with_kept s (with_temperature millicelsius s.kept)
