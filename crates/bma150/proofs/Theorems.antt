@@ -3,3 +3,4 @@ pub mod Added
 pub mod Refused
 pub mod Starts
 pub mod Marks
+pub mod Acts

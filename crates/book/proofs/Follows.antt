@@ -20,13 +20,13 @@ use Rattle.calls.proofs.Theorems.Exactly.{follows_on}
 use Rattle.sensor.specs.declared.types.Kept.{Kept}
 use Rattle.sensor.specs.declared.types.Outage.{Outage}
 use Rattle.sensor.specs.declared.types.Sensor.{Sensor}
-use Rattle.sensor.specs.Record.{lines_kept}
+use Rattle.sensor.specs.Record.{with_acceleration, lines_kept}
 use Rattle.sensor.specs.Image.{new_kept}
 use Rattle.sensor.specs.Select.{may_select}
 use Rattle.samples.specs.Samples.{interaction_deadline, sync_local_until}
 use Rattle.bma150.specs.declared.host.Bma150.{Bma150}
-use Rattle.bma150.specs.Called.{effect, leaves}
-use Rattle.book.specs.Does.{at_rise, at_pins, with_acceleration, timed_does, does}
+use Rattle.bma150.specs.Called.{Acts, acts, left_by, effect, leaves}
+use Rattle.book.specs.Does.{at_rise, at_pins, timed_does, act_does, does}
 use Rattle.book.specs.Lists.{accepts, step, Start, started, after, accepted, last_kept, kept}
 use Rattle.book.specs.Follows.{timed_levels, call_levels, last_levels, both_high, lines, Follows}
 use Rattle.book.proofs.Call.{after_call, at_start}
@@ -81,13 +81,14 @@ timed_kept s now (Timed.Pins before after) =
     let k = then (sync_keeps s now false) (pins_synced_keeps (sync_local_until s now false) e now) in
     ap (λ (x : Core). lines_kept x.kept after) (pins_keeps (at_pins s e now) e now).same ∙ ap (λ (x : Core). lines_kept x.kept after) k.same
 
+act_kept : (s : Bma150) (o : Acts) → (left_by s o).sensor.kept ≡ (act_does o).keeps s.sensor.kept
+act_kept s (Acts.timed now t) = timed_kept s.sensor now t
+act_kept s (Acts.select on) = ap kept_of (select_core s.sensor (may_select s.sensor on))
+act_kept s (Acts.keeps f) = refl
+
 leaves_kept : (s : Bma150) (c : Call) → (leaves s c).sensor.kept ≡ (does c).keeps s.sensor.kept
 unfolding leaves does
-leaves_kept s (Call.At now t) = timed_kept s.sensor now t
-leaves_kept s (Call.Temperature x) = refl
-leaves_kept s (Call.Select on) = ap kept_of (select_core s.sensor (may_select s.sensor on))
-leaves_kept s (Call.View address) = refl
-leaves_kept s (Call.StoredImage now length) = refl
+leaves_kept s c = act_kept s (acts c)
 
 pub step_kept : (s : Bma150) (c : Call) → (step s c).sensor.kept ≡ cond (accepts s c) ((does c).keeps s.sensor.kept) s.sensor.kept
 step_kept s c =

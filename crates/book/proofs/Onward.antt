@@ -17,6 +17,7 @@ use Rattle.calls.specs.Table as T
 use Rattle.calls.proofs.Theorems.Left.{clear}
 use Rattle.samples.specs.Samples.{interaction_deadline}
 use Rattle.bma150.specs.declared.host.Bma150.{Bma150}
+use Rattle.bma150.proofs.Theorems.Acts.{by_acts}
 use Rattle.bma150.specs.Called.{leaves}
 use Rattle.effects.specs.Onward as E
 use Rattle.effects.specs.Onward.{Upto}
@@ -52,11 +53,8 @@ not_back s now t p =
 -- the last accepted time never goes back
 not_before : (s : Bma150) (c : Call) → accepts s c ≡ true → ticks s.last ≤ ticks (leaves s c).last
 unfolding leaves
-not_before s (Call.At now t) p = not_back s now t p
-not_before s (Call.Temperature x) p = omega arith
-not_before s (Call.Select on) p = omega arith
-not_before s (Call.View address) p = omega arith
-not_before s (Call.StoredImage now length) p = omega arith
+not_before s =
+    by_acts (λ c. accepts s c ≡ true → ticks s.last ≤ ticks (leaves s c).last) (not_back s) (λ on p. omega arith) (λ c f e p. rw e (omega arith))
 
 later_upto : (a b : Time) (g : Analog) → ticks a ≤ ticks b → Upto a g → Upto b g
 later_upto a b g p h = record { x = le_trans h.x p; y = le_trans h.y p; z = le_trans h.z p }

@@ -26,7 +26,7 @@ use Rattle.calls.specs.declared.types.Call.{Call}
 use Rattle.bma150.specs.declared.host.Bma150.{Bma150}
 use Rattle.sensor.specs.declared.types.Sensor.{Sensor}
 use Rattle.sensor.specs.declared.types.Outage.{Outage}
-use Rattle.sensor.specs.Record.{lines_kept, away, cold_of, is_off, is_cold, serial_not_ready, is_quiet, is_writing, four_wire}
+use Rattle.sensor.specs.Record.{with_acceleration, lines_kept, away, cold_of, is_off, is_cold, serial_not_ready, is_quiet, is_writing, four_wire}
 use Rattle.sensor.specs.Record as Record
 use Rattle.sensor.specs.Image.{with_cell}
 use Rattle.samples.specs.Samples.{interaction_deadline}
@@ -35,9 +35,10 @@ use Rattle.serial.specs.SpiEdges.{spi_listens}
 use Rattle.serial.specs.I2cPins.{i2c_listens, ones_for}
 use Rattle.calls.specs.Table as T
 use Rattle.calls.specs.Facts.{timed_facts, facts}
-use Rattle.bma150.specs.Called.{effect, served, leaves}
+use Rattle.bma150.specs.Called.{Acts, acts, effect, served, leaves}
+use Rattle.bma150.proofs.Theorems.Acts.{by_acts}
 use Rattle.book.specs.Lists.{FitsTimed, Fits, zeroed, accepts}
-use Rattle.book.specs.Does.{at_rise, at_pins, spi_write, action_write, i2c_write, with_acceleration, supplying, timed, Does, timed_does, does}
+use Rattle.book.specs.Does.{at_rise, at_pins, spi_write, action_write, i2c_write, supplying, timed, Does, timed_does, does}
 use Rattle.book.specs.Book.{Book, book, struck, operation, closed, completing, completed, cutting, supplied, accepted_write, of_write, began, changed_at, changed}
 use Rattle.book.specs.Book as B
 use Rattle.book.proofs.Keeps.{Core, core, Keeps, then, select_core, sync_keeps, rise_synced_keeps, pins_synced_keeps, falling_keeps}
@@ -294,12 +295,19 @@ module _ (b : Bma150) (h : Sound (core b.sensor)) where
   moved_timed now (Timed.Pins before after) small p = moved_pins now before after small (timely b.last s now (Call.At now (Timed.Pins before after)) p _ _ refl)
 
   -- an accepted call moves sensor and book alike
-  pub moved : (c : Call) → Fits c → accepts b c ≡ true → Moved (core s) (core (leaves b c).sensor) (does c) (changed (read b) s c)
+  abbrev CallMoved : Call → Type 0
+  CallMoved c = Fits c → accepts b c ≡ true → Moved (core s) (core (leaves b c).sensor) (does c) (changed (read b) s c)
+
+  moved_select : (on : Bool) → CallMoved (Call.Select on)
   unfolding leaves does changed_at zeroed may_select
-  moved (Call.At now t) d p = moved_timed now t d p
-  moved (Call.Temperature x) d p = record { cells = refl; running = refl; sound = record { fine = h.fine; deaf = h.deaf }; zero = refl; kept = refl }
-  moved (Call.Select on) d p =
+  moved_select on d p =
       subst (λ (l : Core). Moved (core s) l (does (Call.Select on)) (read b)) (sym (select_core s (may_select s on)))
       (record { cells = refl; running = refl; sound = record { fine = h.fine; deaf = λ e. and_right on (not (is_off s)) (not_from_true (is_off s) e) }; zero = refl; kept = refl })
-  moved (Call.View address) d p = record { cells = refl; running = refl; sound = h; zero = refl; kept = refl }
-  moved (Call.StoredImage now length) d p = record { cells = refl; running = refl; sound = h; zero = refl; kept = refl }
+
+  moved_kept : (c : Call) (f : Kept → Kept) → acts c ≡ Acts.keeps f → CallMoved c
+  unfolding leaves does changed_at zeroed
+  moved_kept c f e d p = rw e (record { cells = refl; running = refl; sound = record { fine = h.fine; deaf = h.deaf }; zero = refl; kept = refl })
+
+  pub moved : (c : Call) → CallMoved c
+  unfolding leaves does
+  moved = by_acts CallMoved moved_timed moved_select moved_kept

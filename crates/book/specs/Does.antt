@@ -1,7 +1,6 @@
 -- What an accepted call does to what is kept, to the supply and to the write book, said once for each call.
-use Rattle.std.specs.Prelude.{ℕ, Bool, false, not, ◌&&◌, ℤ, if◌then◌else◌, Option, Some, None}
+use Rattle.std.specs.Prelude.{ℕ, Bool, false, not, ◌&&◌, if◌then◌else◌, Option, Some, None}
 use Rattle.time.specs.declared.Time.{Time}
-use Rattle.analog.specs.Axis.{Acceleration}
 use Rattle.i2c.specs.declared.types.Levels.{Levels}
 use Rattle.i2c.specs.declared.types.Edge.{Edge}
 use Rattle.i2c.specs.declared.types.Action.{Action}

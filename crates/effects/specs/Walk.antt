@@ -1,10 +1,9 @@
 -- What a call does to a sensor, in steps: a relation between sensors that each step meets is met by every call (`Theorems.Walk`).
-use Rattle.std.specs.Prelude.{ℕ, ◌≡◌, Bool, true, false, ℤ, Option, Some, None}
+use Rattle.std.specs.Prelude.{ℕ, ◌≡◌, Bool, true, false, Option, Some, None}
 use Rattle.time.specs.declared.Time.{Time}
 use Rattle.time.specs.declared.Duration.{Duration}
 use Rattle.time.specs.Time.{plus, since, from_micros}
 use Rattle.interrupts.specs.State as I
-use Rattle.i2c.specs.declared.types.Levels.{Levels}
 use Rattle.i2c.specs.declared.types.Edge.{Edge}
 use Rattle.i2c.specs.Engine as E
 use Rattle.spi.specs.Frame as F
@@ -20,8 +19,9 @@ use Rattle.time.specs.Clock as Clock
 use Rattle.analog.specs.Axis.{Acceleration}
 use Rattle.sensor.specs.declared.types.StoredWrite.{StoredWrite}
 use Rattle.sensor.specs.declared.types.Outage.{Outage}
+use Rattle.sensor.specs.declared.types.Kept.{Kept}
 use Rattle.sensor.specs.declared.types.Sensor.{Sensor}
-use Rattle.sensor.specs.Record.{with_frame, with_i2c, with_reads, with_sampling, with_deadlines, with_interrupts, with_outage, with_lines, put, is_quiet, four_wire, is_off, with_cycles, with_ready}
+use Rattle.sensor.specs.Record.{with_frame, with_i2c, with_reads, with_sampling, with_deadlines, with_interrupts, with_outage, with_kept, put, is_quiet, four_wire, is_off, with_cycles, with_ready}
 use Rattle.sensor.specs.Image.{byte_at, shadowing, copy_image, power_on}
 use Rattle.sensor.specs.Mode.{start_acquisition, pause, automatic_off, soft_reset}
 use Rattle.sensor.specs.RegisterReads.{prepared, counts_as_read, acceleration_read}
@@ -29,7 +29,7 @@ use Rattle.sensor.specs.Select.{reselected}
 use Rattle.writes.specs.Write.{tested, measurement_written, durations_written, begun, write_kind}
 use Rattle.samples.specs.Samples.{after_edges, edges_until, samples_on_demand}
 use Rattle.serial.specs.I2cPins.{ones_for}
-use Rattle.waits.specs.Supply.{write_over, held, set_input, set_temperature}
+use Rattle.waits.specs.Supply.{write_over, held, set_input}
 use Rattle.waits.specs.Due.{waits_ended, image_loaded, sample_due_now}
 
 pub record Steps (now : Time) (R : Sensor → Sensor → Type 0) : Type 0 where
@@ -85,5 +85,4 @@ pub record Steps (now : Time) (R : Sensor → Sensor → Type 0) : Type 0 where
   pub comes_back : (s : Sensor) (o : Outage) → s.outage ≡ Some o → R s (with_outage (with_deadlines s (shifted s.deadlines (since now o.since))) None)
   pub powers_on : (s : Sensor) → is_off s ≡ true → R s (power_on s now)
   pub sets : (s : Sensor) (input : Acceleration) → R s (set_input s input now)
-  pub follows : (s : Sensor) (lines : Levels) → R s (with_lines s lines)
-  pub warms : (s : Sensor) (millicelsius : ℤ) → R s (set_temperature s millicelsius)
+  pub keeps : (s : Sensor) (k : Kept) → R s (with_kept s k)

@@ -3,26 +3,30 @@ use Rattle.std.specs.Prelude.{◌^◌, ◌<◌, ◌≡◌, refl, List, [], ◌�
 use Rattle.time.specs.declared.Time.{Time}
 use Rattle.calls.specs.declared.types.Timed.TheVariants as Timed
 use Rattle.calls.specs.declared.types.Call.{Call}
-use Rattle.book.specs.Does.{does, timed_does}
-use Rattle.book.specs.Lists.{Fits, Fractions}
+use Rattle.bma150.specs.Called.{Acts, acts}
+use Rattle.book.specs.Does.{timed_does, act_does, does}
+use Rattle.book.specs.Lists.{ActFits, Fits, Fractions}
 
 -- such a call
 abbrev pub Word : Call → Type 0
 Word c = (now : Time) → (does c).time ≡ Some now → now.1 < 2 ^ 64
 
+-- of what a call acts on
+act_fits : (o : Acts) → ((now : Time) → (act_does o).time ≡ Some now → now.1 < 2 ^ 64) → ActFits o
+unfolding timed_does
+act_fits (Acts.timed now (Timed.Accelerations input)) w = tt
+act_fits (Acts.timed now (Timed.Supply rail)) w = tt
+act_fits (Acts.timed now Timed.Due) w = tt
+act_fits (Acts.timed now (Timed.Rising mosi)) w = w now refl
+act_fits (Acts.timed now Timed.Falling) w = tt
+act_fits (Acts.timed now (Timed.Pins before after)) w = w now refl
+act_fits (Acts.select on) w = tt
+act_fits (Acts.keeps f) w = tt
+
 -- whatever its kind and its other arguments
 pub fits : (c : Call) → Word c → Fits c
-unfolding does timed_does
-fits (Call.At now (Timed.Accelerations input)) w = tt
-fits (Call.At now (Timed.Supply rail)) w = tt
-fits (Call.At now Timed.Due) w = tt
-fits (Call.At now (Timed.Rising mosi)) w = w now refl
-fits (Call.At now Timed.Falling) w = tt
-fits (Call.At now (Timed.Pins before after)) w = w now refl
-fits (Call.Temperature x) w = tt
-fits (Call.Select on) w = tt
-fits (Call.View address) w = tt
-fits (Call.StoredImage now length) w = tt
+unfolding does
+fits c w = act_fits (acts c) w
 
 abbrev pub Words : List Call → Type 0
 Words [] = Unit {0}
