@@ -21,6 +21,7 @@ use Rattle.samples.specs.Samples.{sync_local_until}
 use Rattle.serial.specs.I2cPins.{ones_for}
 use Rattle.serial.specs.Outputs.{i2c_holds}
 use Rattle.bma150.specs.declared.host.Bma150.{Bma150}
+use Rattle.bma150.specs.Called.{Acts, acts}
 use Rattle.book.specs.Lists.{accepts, step, after}
 
 -- ---- a sensor that hears the bus: with supply, its pins not dead, SPI not selected and at rest, not quiet after a soft reset
@@ -43,12 +44,13 @@ timed_event Timed.Falling = Still
 timed_event (Timed.Pins before after) = edge before after
 
 -- the event of a call: only a report has one
+abbrev pub act_event : Acts → Edge
+act_event (Acts.timed now t) = timed_event t
+act_event (Acts.select on) = Still
+act_event (Acts.keeps f) = Still
+
 unfoldable pub event : Call → Edge
-event (Call.At now t) = timed_event t
-event (Call.Temperature x) = Still
-event (Call.Select on) = Still
-event (Call.View address) = Still
-event (Call.StoredImage now length) = Still
+event c = act_event (acts c)
 
 -- the bus: the events of the accepted calls
 unfoldable pub events : List Call → List Edge
@@ -100,12 +102,13 @@ timed_ends s now Timed.Falling = false
 timed_ends s now (Timed.Pins before after) = resets (sampled s now) (deed (target_of s) (edge before after))
 
 -- a call does
+abbrev pub act_ends : Sensor → Acts → Bool
+act_ends s (Acts.timed now t) = timed_ends s now t
+act_ends s (Acts.select on) = on
+act_ends s (Acts.keeps f) = false
+
 unfoldable pub ends : Bma150 → Call → Bool
-ends s (Call.At now t) = timed_ends s.sensor now t
-ends s (Call.Temperature x) = false
-ends s (Call.Select on) = on
-ends s (Call.View address) = false
-ends s (Call.StoredImage now length) = false
+ends s c = act_ends s.sensor (acts c)
 
 -- an accepted call of the list does
 unfoldable pub ended : Bma150 → List Call → Bool
@@ -115,12 +118,13 @@ ended s (c ∷ cs) = accepts s c && ends s c || ended (step s c) cs
 -- ---- what is seen
 
 -- at a call: of the sensor with the sample of its moment
+abbrev pub fetch_at : Sensor → Acts → ℕ → ℕ
+fetch_at s (Acts.timed now t) = fetch (sampled s now)
+fetch_at s (Acts.select on) = fetch s
+fetch_at s (Acts.keeps f) = fetch s
+
 unfoldable pub shows : Bma150 → Call → ℕ → ℕ
-shows s (Call.At now t) = fetch (sampled s.sensor now)
-shows s (Call.Temperature x) = fetch s.sensor
-shows s (Call.Select on) = fetch s.sensor
-shows s (Call.View address) = fetch s.sensor
-shows s (Call.StoredImage now length) = fetch s.sensor
+shows s c = fetch_at s.sensor (acts c)
 
 -- one entry for each event
 unfoldable pub at_event : {A : Type 0} → Edge → A → List A → List A

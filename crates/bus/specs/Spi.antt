@@ -14,6 +14,7 @@ use Rattle.samples.specs.Samples.{sync_local_until}
 use Rattle.serial.specs.SpiEdges.{first_bit_taken, fall_synced}
 use Rattle.serial.specs.Outputs as Outputs
 use Rattle.bma150.specs.declared.host.Bma150.{Bma150}
+use Rattle.bma150.specs.Called.{Acts, acts}
 use Rattle.book.specs.Does.{at_rise, spi_write}
 use Rattle.book.specs.Lists.{accepts, step}
 use Rattle.bus.specs.I2c.{sampled, is_reset}
@@ -37,12 +38,13 @@ timed_edge Timed.Falling = Some Fall
 timed_edge (Timed.Pins before after) = None
 
 -- the edge of a call, if it has one
+abbrev pub act_edge : Acts → Option Event
+act_edge (Acts.timed now t) = timed_edge t
+act_edge (Acts.select on) = None
+act_edge (Acts.keeps f) = None
+
 unfoldable pub edge_of : Call → Option Event
-edge_of (Call.At now t) = timed_edge t
-edge_of (Call.Temperature x) = None
-edge_of (Call.Select on) = None
-edge_of (Call.View address) = None
-edge_of (Call.StoredImage now length) = None
+edge_of c = act_edge (acts c)
 
 -- an entry before others
 unfoldable pub and_some : {A : Type 0} → Option A → List A → List A
@@ -90,12 +92,13 @@ timed_now s now Timed.Falling = now_at_fall s now
 timed_now s now (Timed.Pins before after) = past_end
 
 -- at a call
+abbrev pub act_now : Bma150 → Acts → Now
+act_now s (Acts.timed now t) = timed_now s now t
+act_now s (Acts.select on) = past_end
+act_now s (Acts.keeps f) = past_end
+
 unfoldable pub now_of : Bma150 → Call → Now
-now_of s (Call.At now t) = timed_now s now t
-now_of s (Call.Temperature x) = past_end
-now_of s (Call.Select on) = past_end
-now_of s (Call.View address) = past_end
-now_of s (Call.StoredImage now length) = past_end
+now_of s c = act_now s (acts c)
 
 -- ---- what ends hearing: select 0, a supply below 2400 mV, and the write of a soft reset
 
@@ -114,12 +117,13 @@ timed_leaves s now Timed.Falling = false
 timed_leaves s now (Timed.Pins before after) = false
 
 -- a call does
+abbrev pub act_leaves : Sensor → Acts → Bool
+act_leaves s (Acts.timed now t) = timed_leaves s now t
+act_leaves s (Acts.select on) = not on
+act_leaves s (Acts.keeps f) = false
+
 unfoldable pub leaves_frame : Bma150 → Call → Bool
-leaves_frame s (Call.At now t) = timed_leaves s.sensor now t
-leaves_frame s (Call.Temperature x) = false
-leaves_frame s (Call.Select on) = not on
-leaves_frame s (Call.View address) = false
-leaves_frame s (Call.StoredImage now length) = false
+leaves_frame s c = act_leaves s.sensor (acts c)
 
 -- an accepted call of the list does
 unfoldable pub left_frame : Bma150 → List Call → Bool
@@ -128,14 +132,15 @@ left_frame s (c ∷ cs) = accepts s c && leaves_frame s c || left_frame (step s 
 
 -- ---- sleep, which releases the driver
 
--- the sensor sleeps before the call's effect, with the sample of its moment, or after it
+-- the sensor sleeps before a timed call's effect, or with the sample of its moment
+abbrev pub act_sleeps : Sensor → Acts → Bool
+act_sleeps s (Acts.timed now t) = (sync_local_until s now false).sampling.asleep || (sampled s now).sampling.asleep
+act_sleeps s (Acts.select on) = false
+act_sleeps s (Acts.keeps f) = false
+
+-- or after the call
 unfoldable pub sleeps_at : Bma150 → Call → Bool
-sleeps_at s (Call.At now t) =
-    (sync_local_until s.sensor now false).sampling.asleep || (sampled s.sensor now).sampling.asleep || (step s (Call.At now t)).sensor.sampling.asleep
-sleeps_at s (Call.Temperature x) = (step s (Call.Temperature x)).sensor.sampling.asleep
-sleeps_at s (Call.Select on) = (step s (Call.Select on)).sensor.sampling.asleep
-sleeps_at s (Call.View address) = (step s (Call.View address)).sensor.sampling.asleep
-sleeps_at s (Call.StoredImage now length) = (step s (Call.StoredImage now length)).sensor.sampling.asleep
+sleeps_at s c = act_sleeps s.sensor (acts c) || (step s c).sensor.sampling.asleep
 
 -- at an accepted call of the list
 unfoldable pub sleeps : Bma150 → List Call → Bool

@@ -20,10 +20,11 @@ use Rattle.sensor.specs.declared.types.Sensor.{Sensor}
 use Rattle.samples.specs.Samples.{sync_local_until}
 use Rattle.serial.specs.SpiEdges.{spi_listens}
 use Rattle.bma150.specs.declared.host.Bma150.{Bma150}
-use Rattle.book.specs.Does.{at_rise, at_pins, spi_write, action_write, i2c_write, timed_does, does}
+use Rattle.bma150.specs.Called.{Acts, acts}
+use Rattle.book.specs.Does.{at_rise, at_pins, spi_write, action_write, i2c_write, timed_does, act_does, does}
 use Rattle.book.specs.Lists.{accepts, step, after, accepted}
 use Rattle.effects.specs.Theorems.Keeps as K
-use Rattle.bus.specs.I2c.{Heard, timed_event, event, events, target_of, ended, at_event, shown, sees, seen_of}
+use Rattle.bus.specs.I2c.{Heard, timed_event, act_event, event, events, target_of, ended, at_event, shown, sees, seen_of}
 use Rattle.bus.specs.Writes.{and_write, asked, seen_writes, pair_writes}
 use Rattle.bus.specs.Theorems.Parts.{and_then, of, heard, same_target, listens, not_quiet}
 use Rattle.bus.specs.Theorems.Lists.{next_heard, rest_goes_on}
@@ -71,14 +72,15 @@ module _ (s : Sensor) (h : Heard s) where
   timed_asks now Timed.Falling = none
   timed_asks now (Timed.Pins before after) = pins_write (edge before after) now
 
+  act_asks : (o : Acts) → ((act_does o).asks s).write ≡ action_write (deed (target_of s) (act_event o))
+  act_asks (Acts.timed now t) = timed_asks now t
+  act_asks (Acts.select on) = none
+  act_asks (Acts.keeps f) = none
+
   -- the book asks for the write that the engine asks for
   pub call_asks : (c : Call) → ((does c).asks s).write ≡ action_write (deed (target_of s) (event c))
   unfolding does event
-  call_asks (Call.At now t) = timed_asks now t
-  call_asks (Call.Temperature x) = none
-  call_asks (Call.Select on) = none
-  call_asks (Call.View address) = none
-  call_asks (Call.StoredImage now length) = none
+  call_asks c = act_asks (acts c)
 
 -- ---- lists
 

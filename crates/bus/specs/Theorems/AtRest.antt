@@ -39,7 +39,7 @@ use Rattle.serial.specs.I2cPins.{i2c_listens, ones_for, launched, acted, i2c_pin
 use Rattle.waits.specs.Supply.{without_report, cut, held, cold_return, zero_while_off, warm_return, returned, supply_low, supply_ok, set_supply}
 use Rattle.waits.specs.Due.{completed, waits_ended, pause_ended, write_ended, hold_ends_now, at_deadline}
 use Rattle.bma150.specs.declared.host.Bma150.{Bma150}
-use Rattle.bma150.specs.Called.{start_number, started, after_start, effect, leaves}
+use Rattle.bma150.specs.Called.{Acts, acts, left_by, start_number, started, after_start, effect, leaves}
 use Rattle.book.specs.Lists as L
 use Rattle.book.specs.Lists.{accepts, step, after}
 use Rattle.effects.specs.Core as C
@@ -264,13 +264,14 @@ timed_rests u now (Timed.Rising mosi) h = rise_rests (E.rise_synced u now) mosi 
 timed_rests u now Timed.Falling h = rested (fall_alike (E.fall_synced u now)) (rested (kept (K.fall_synced_keeps u now)) h)
 timed_rests u now (Timed.Pins a b) h = rested (pins_alike (pins_synced u (edge a b) now) (edge a b) now) (rested (kept (K.pins_synced_keeps u (edge a b) now)) h)
 
+act_rests : (s : Bma150) (o : Acts) → Rested s.sensor.frame → Rested (left_by s o).sensor.frame
+act_rests s (Acts.timed now t) h = timed_rests (sync_local_until s.sensor now false) now t (rested (kept (K.sync_keeps s.sensor now false)) h)
+act_rests s (Acts.select on) h = selected_to_rests s.sensor (may_select s.sensor on) h
+act_rests s (Acts.keeps f) h = h
+
 call_rests : (s : Bma150) (c : Call) → Rested s.sensor.frame → Rested (leaves s c).sensor.frame
 unfolding leaves
-call_rests s (Call.At now t) h = timed_rests (sync_local_until s.sensor now false) now t (rested (kept (K.sync_keeps s.sensor now false)) h)
-call_rests s (Call.Temperature x) h = h
-call_rests s (Call.Select on) h = selected_to_rests s.sensor (may_select s.sensor on) h
-call_rests s (Call.View address) h = h
-call_rests s (Call.StoredImage now length) h = h
+call_rests s c h = act_rests s (acts c) h
 
 step_rests : (s : Bma150) (c : Call) → Rested s.sensor.frame → Rested (step s c).sensor.frame
 step_rests s c h = by (accepts s c) refl

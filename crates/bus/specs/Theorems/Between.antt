@@ -1,6 +1,6 @@
 -- What calls other than reports leave of the bus, for a sensor that hears it before and after.
 use Rattle.sensor.specs.Operation.{Operation}
-use Rattle.std.specs.Prelude.{ℕ, ◌≡◌, refl, Bool, true, false, cond, not, ◌&&◌, ltb, eqb, ℤ, Option, Some, None}
+use Rattle.std.specs.Prelude.{ℕ, ◌≡◌, refl, Bool, true, false, cond, not, ◌&&◌, ltb, eqb, Option, Some, None}
 use Rattle.std.proofs.Math.Path.{ap}
 use Rattle.time.specs.declared.Time.{Time}
 use Rattle.time.specs.Time.{same}
@@ -11,12 +11,13 @@ use Rattle.spi.specs.declared.types.Serial.TheVariants as Serial
 use Rattle.spi.specs.Frame as F
 use Rattle.deadlines.specs.Deadlines.{is_at, unless_at}
 use Rattle.sensor.specs.declared.types.Outage.{Outage}
+use Rattle.sensor.specs.declared.types.Kept.{Kept}
 use Rattle.sensor.specs.declared.types.Sensor.{Sensor}
-use Rattle.sensor.specs.Record.{away, is_off, serial_not_ready, four_wire}
+use Rattle.sensor.specs.Record.{with_kept, away, is_off, serial_not_ready, four_wire}
 use Rattle.sensor.specs.Mode.{criterion}
 use Rattle.sensor.specs.Select.{selected_to, may_select, set_selected}
 use Rattle.serial.specs.SpiEdges.{moved, shift_output, spi_listens, rise_synced, fall_synced, rising_effect, falling_effect, rising_at, falling_at}
-use Rattle.waits.specs.Supply.{supply_low, supply_ok, set_supply, set_input, set_temperature}
+use Rattle.waits.specs.Supply.{supply_low, supply_ok, set_supply, set_input}
 use Rattle.waits.specs.Due.{waits_ended, pause_ended, write_ended, hold_ends_now, at_deadline}
 use Rattle.effects.specs.Theorems.Keeps as K
 use Rattle.bus.specs.I2c.{Heard}
@@ -122,10 +123,10 @@ module _ (s : Sensor) (h : Heard s) where
   unfolding selected_to may_select F.differs
   select_taken = rw (h.on, h.unselected)
 
--- ---- acceleration and temperature are no part of the bus
+-- ---- an acceleration and what is kept are no part of the bus
 
 pub input_same : (s : Sensor) (input : Acceleration) (now : Time) → Same s (set_input s input now)
 input_same s input now = record { same = refl }
 
-pub temperature_same : (s : Sensor) (x : ℤ) → Same s (set_temperature s x)
-temperature_same s x = record { same = refl }
+pub kept_same : (s : Sensor) (k : Kept) → Same s (with_kept s k)
+kept_same s k = record { same = refl }

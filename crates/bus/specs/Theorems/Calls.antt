@@ -21,13 +21,13 @@ use Rattle.sensor.specs.Record.{with_i2c, is_quiet}
 use Rattle.samples.specs.Samples.{sync_local_until}
 use Rattle.serial.specs.I2cPins.{ones_for, acted, i2c_pins, pins_synced}
 use Rattle.bma150.specs.declared.host.Bma150.{Bma150}
-use Rattle.bma150.specs.Called.{effect, leaves}
+use Rattle.bma150.specs.Called.{Acts, acts, left_by, effect, leaves}
 use Rattle.book.specs.Lists.{accepts, step, after}
 use Rattle.effects.specs.Theorems.Keeps as K
-use Rattle.bus.specs.I2c.{Heard, timed_event, event, target_of, sampled, fetch, resets, timed_ends, ends, shows, sees}
-use Rattle.bus.specs.Theorems.Parts.{absurd_bool, Same, and_then, itself, of, heard, same_target, not_quiet, holds}
+use Rattle.bus.specs.I2c.{Heard, timed_event, event, target_of, sampled, fetch, resets, timed_ends, act_event, act_ends, fetch_at, ends, shows, sees}
+use Rattle.bus.specs.Theorems.Parts.{absurd_bool, Same, and_then, of, heard, same_target, not_quiet, holds}
 use Rattle.bus.specs.Theorems.Reports.{stepped_to, pins_are, met, acted_target, acted_heard, acted_quiet, act_shows}
-use Rattle.bus.specs.Theorems.Between.{supply_same, supply_lost, due_same, rising_same, falling_same, select_same, select_taken, input_same, temperature_same}
+use Rattle.bus.specs.Theorems.Between.{supply_same, supply_lost, due_same, rising_same, falling_same, select_same, select_taken, input_same, kept_same}
 
 -- ---- an accepted call leaves what it does, a refused one what came in
 
@@ -173,32 +173,35 @@ module _ (s : Sensor) (now : Time) (h : Heard s) where
   timed_unheard (Timed.Pins before after) n k = absurd_bool (sym (report_quiets s (edge before after) now h n) ∙ not_quiet k)
 
 module _ (s : Bma150) (h : Heard s.sensor) where
+  act_served : (o : Acts) → act_ends s.sensor o ≡ false → target_of (left_by s o).sensor ≡ serve (fetch_at s.sensor o) (target_of s.sensor) (act_event o)
+  act_served (Acts.timed now t) n = timed_served s.sensor now h t n
+  act_served (Acts.select true) n = absurd_bool n
+  act_served (Acts.select false) n = still _ (select_same s.sensor h)
+  act_served (Acts.keeps f) n = still _ (kept_same s.sensor (f s.sensor.kept))
+
+  act_heard : (o : Acts) → act_ends s.sensor o ≡ false → Heard (left_by s o).sensor
+  act_heard (Acts.timed now t) n = timed_heard s.sensor now h t n
+  act_heard (Acts.select true) n = absurd_bool n
+  act_heard (Acts.select false) n = heard (select_same s.sensor h) h
+  act_heard (Acts.keeps f) n = heard (kept_same s.sensor (f s.sensor.kept)) h
+
+  act_unheard : (o : Acts) → act_ends s.sensor o ≡ true → Heard (left_by s o).sensor → ⊥
+  act_unheard (Acts.timed now t) n k = timed_unheard s.sensor now h t n k
+  act_unheard (Acts.select true) n k = absurd_bool (sym (select_taken s.sensor h) ∙ k.unselected)
+  act_unheard (Acts.select false) n k = absurd_bool (sym n)
+  act_unheard (Acts.keeps f) n k = absurd_bool (sym n)
+
   leaves_served : (c : Call) → ends s c ≡ false → target_of (leaves s c).sensor ≡ serve (shows s c) (target_of s.sensor) (event c)
   unfolding leaves event shows ends
-  leaves_served (Call.At now t) n = timed_served s.sensor now h t n
-  leaves_served (Call.Temperature x) n = still _ (temperature_same s.sensor x)
-  leaves_served (Call.Select true) n = absurd_bool n
-  leaves_served (Call.Select false) n = still _ (select_same s.sensor h)
-  leaves_served (Call.View address) n = still _ (itself s.sensor)
-  leaves_served (Call.StoredImage now length) n = still _ (itself s.sensor)
+  leaves_served c n = act_served (acts c) n
 
   leaves_heard : (c : Call) → ends s c ≡ false → Heard (leaves s c).sensor
   unfolding leaves ends
-  leaves_heard (Call.At now t) n = timed_heard s.sensor now h t n
-  leaves_heard (Call.Temperature x) n = heard (temperature_same s.sensor x) h
-  leaves_heard (Call.Select true) n = absurd_bool n
-  leaves_heard (Call.Select false) n = heard (select_same s.sensor h) h
-  leaves_heard (Call.View address) n = h
-  leaves_heard (Call.StoredImage now length) n = h
+  leaves_heard c n = act_heard (acts c) n
 
   leaves_unheard : (c : Call) → ends s c ≡ true → Heard (leaves s c).sensor → ⊥
   unfolding leaves ends
-  leaves_unheard (Call.At now t) n k = timed_unheard s.sensor now h t n k
-  leaves_unheard (Call.Temperature x) n k = absurd_bool (sym n)
-  leaves_unheard (Call.Select true) n k = absurd_bool (sym (select_taken s.sensor h) ∙ k.unselected)
-  leaves_unheard (Call.Select false) n k = absurd_bool (sym n)
-  leaves_unheard (Call.View address) n k = absurd_bool (sym n)
-  leaves_unheard (Call.StoredImage now length) n k = absurd_bool (sym n)
+  leaves_unheard c n k = act_unheard (acts c) n k
 
   module _ (c : Call) (e : accepts s c ≡ true) where
     -- an accepted call ends hearing exactly if it is select 1, a supply below 2400 mV, or the write of a soft reset

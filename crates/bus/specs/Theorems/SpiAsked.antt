@@ -22,6 +22,7 @@ use Rattle.sensor.specs.Record.{four_wire}
 use Rattle.samples.specs.Samples.{sync_local_until}
 use Rattle.serial.specs.I2cPins.{i2c_listens}
 use Rattle.bma150.specs.declared.host.Bma150.{Bma150}
+use Rattle.bma150.proofs.Theorems.Acts.{by_acts}
 use Rattle.book.specs.Does.{at_rise, at_pins, spi_write, i2c_write, timed_does, does}
 use Rattle.book.specs.Lists.{accepts, step, accepted}
 use Rattle.effects.specs.Theorems.Keeps as KK
@@ -122,11 +123,8 @@ module _ (s : Bma150) (h : Chosen s.sensor) (ws : List (Option (ℕ × ℕ))) wh
   -- the book asks for the write that is seen
   pub call_asks : (c : Call) → and_write ((does c).asks s.sensor).write ws ≡ some_writes s c (edge_of c) ws
   unfolding does edge_of some_writes and_write
-  call_asks (Call.At now t) = timed_asks now t
-  call_asks (Call.Temperature x) = refl
-  call_asks (Call.Select on) = refl
-  call_asks (Call.View address) = refl
-  call_asks (Call.StoredImage now length) = refl
+  call_asks =
+      by_acts (λ c. and_write ((does c).asks s.sensor).write ws ≡ some_writes s c (edge_of c) ws) timed_asks (λ on. refl) (λ c f e. rw e refl)
 
 -- ---- lists
 

@@ -17,11 +17,11 @@ use Rattle.writes.specs.Write.{write_kind}
 use Rattle.serial.specs.SpiEdges as E
 use Rattle.waits.specs.Supply.{set_supply}
 use Rattle.bma150.specs.declared.host.Bma150.{Bma150}
-use Rattle.bma150.specs.Called.{effect, leaves}
+use Rattle.bma150.specs.Called.{Acts, acts, left_by, effect, leaves}
 use Rattle.book.specs.Does.{at_rise, spi_write}
 use Rattle.book.specs.Lists.{accepts, step}
 use Rattle.effects.specs.Theorems.Keeps as K
-use Rattle.bus.specs.Spi.{Chosen, noted, write_resets, timed_leaves, leaves_frame}
+use Rattle.bus.specs.Spi.{Chosen, noted, write_resets, timed_leaves, act_leaves, leaves_frame}
 use Rattle.bus.specs.Theorems.Between.{supply_off}
 use Rattle.bus.specs.Theorems.Parts.{absurd_bool, and_then, of, is_never}
 use Rattle.bus.specs.Theorems.Reports.{reset_quiets}
@@ -102,14 +102,15 @@ module _ (s : Bma150) (h : Chosen s.sensor) where
   unfolding selected_to may_select F.differs
   deselected = rw h.selected
 
+  act_unheard : (o : Acts) → act_leaves s.sensor o ≡ true → Chosen (left_by s o).sensor → ⊥
+  act_unheard (Acts.timed now t) e k = timed_unheard now t e k
+  act_unheard (Acts.select true) e k = absurd_bool (sym e)
+  act_unheard (Acts.select false) e k = absurd_bool (sym k.selected ∙ deselected)
+  act_unheard (Acts.keeps f) e k = absurd_bool (sym e)
+
   leaves_unheard : (c : Call) → leaves_frame s c ≡ true → Chosen (leaves s c).sensor → ⊥
   unfolding leaves leaves_frame
-  leaves_unheard (Call.At now t) e k = timed_unheard now t e k
-  leaves_unheard (Call.Temperature x) e k = absurd_bool (sym e)
-  leaves_unheard (Call.Select true) e k = absurd_bool (sym e)
-  leaves_unheard (Call.Select false) e k = absurd_bool (sym k.selected ∙ deselected)
-  leaves_unheard (Call.View address) e k = absurd_bool (sym e)
-  leaves_unheard (Call.StoredImage now length) e k = absurd_bool (sym e)
+  leaves_unheard c e k = act_unheard (acts c) e k
 
   -- these end hearing, of all accepted calls; the others do not (`call_left`)
   pub chosen_no_more : (c : Call) → accepts s c ≡ true → leaves_frame s c ≡ true → Chosen (step s c).sensor → ⊥

@@ -1,5 +1,5 @@
 -- Lists of calls as a selected sensor that hears SPI meets them: what their edges make, whatever calls come between.
-use Rattle.std.specs.Prelude.{◌≡◌, Bool, ◌||◌, Option, Some, None}
+use Rattle.std.specs.Prelude.{◌≡◌, Bool, Option, Some, None}
 use Rattle.std.proofs.Math.Path.{refl, sym, ap}
 use Rattle.std.proofs.Common.{◌∙◌}
 use Rattle.std.proofs.Math.Bool.{true, false}
@@ -12,12 +12,11 @@ use Rattle.spi.specs.Lines.{Event, Now, serve, samples, deeds, Seen, left, seen}
 use Rattle.calls.specs.declared.types.Call.{Call}
 use Rattle.sensor.specs.declared.types.Sensor.{Sensor}
 use Rattle.sensor.specs.Record.{four_wire}
-use Rattle.samples.specs.Samples.{sync_local_until}
 use Rattle.serial.specs.Outputs.{spi_drives, output, i2c_holds, data_output}
 use Rattle.bma150.specs.declared.host.Bma150.{Bma150}
+use Rattle.bma150.specs.Called.{acts}
 use Rattle.book.specs.Lists.{accepts, step, after, accepted}
-use Rattle.bus.specs.I2c.{sampled}
-use Rattle.bus.specs.Spi.{Chosen, edge_of, and_some, edges, now_of, leaves_frame, sleeps_at, spi_pin, seen_edge, now_edge, seen_edges, nows}
+use Rattle.bus.specs.Spi.{Chosen, edge_of, and_some, edges, now_of, leaves_frame, act_sleeps, sleeps_at, spi_pin, seen_edge, now_edge, seen_edges, nows}
 use Rattle.bus.specs.Theorems.Parts.{is_never}
 use Rattle.bus.specs.Theorems.Calls.{refused_leaves}
 use Rattle.bus.specs.Theorems.Fading.{floating_exact}
@@ -59,12 +58,7 @@ pub record One (s : Bma150) (c : Call) : Type 0 where
 -- a sensor that does not sleep is awake after the call
 last_awake : (s : Bma150) (c : Call) → sleeps_at s c ≡ false → (step s c).sensor.sampling.asleep ≡ false
 unfolding sleeps_at
-last_awake s (Call.At now t) p =
-    or_right ((sync_local_until s.sensor now false).sampling.asleep || (sampled s.sensor now).sampling.asleep) (step s (Call.At now t)).sensor.sampling.asleep p
-last_awake s (Call.Temperature x) p = p
-last_awake s (Call.Select on) p = p
-last_awake s (Call.View address) p = p
-last_awake s (Call.StoredImage now length) p = p
+last_awake s c p = or_right (act_sleeps s.sensor (acts c)) (step s c).sensor.sampling.asleep p
 
 module _ (s : Bma150) (c : Call) (h : Chosen s.sensor) (ok : accepts s c ≡ true) (stays : leaves_frame s c ≡ false) where
   -- if the sensor does not sleep

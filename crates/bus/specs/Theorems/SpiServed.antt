@@ -13,6 +13,7 @@ use Rattle.spi.specs.Lines.{Event, Rise, Fall, Now, serve, left}
 use Rattle.spi.proofs.Theorems.Broken.{left_selected}
 use Rattle.calls.specs.declared.types.Timed.{Timed}
 use Rattle.calls.specs.declared.types.Call.{Call}
+use Rattle.sensor.specs.declared.types.Kept.{Kept}
 use Rattle.sensor.specs.declared.types.Sensor.{Sensor}
 use Rattle.sensor.specs.Record.{is_off, four_wire}
 use Rattle.sensor.specs.Select.{selected_to, may_select, set_selected}
@@ -20,7 +21,8 @@ use Rattle.samples.specs.Samples.{sync_local_until}
 use Rattle.serial.specs.I2cPins.{i2c_listens}
 use Rattle.waits.specs.Supply.{set_supply}
 use Rattle.bma150.specs.declared.host.Bma150.{Bma150}
-use Rattle.bma150.specs.Called.{effect, leaves}
+use Rattle.bma150.proofs.Theorems.Acts.{by_acts}
+use Rattle.bma150.specs.Called.{Acts, acts, effect, leaves}
 use Rattle.book.specs.Does.{at_rise}
 use Rattle.book.specs.Lists.{accepts, step}
 use Rattle.effects.specs.Theorems.Driver as D
@@ -211,12 +213,19 @@ module _ (s : Bma150) (h : Chosen s.sensor) where
   unfolding selected_to may_select F.differs
   reselected = rw (h.on, h.selected)
 
+  abbrev CallLeft : Call → Type 0
+  CallLeft c = accepts s c ≡ true → leaves_frame s c ≡ false → Left s c
+
+  selected_left : (on : Bool) → CallLeft (Call.Select on)
+  unfolding leaves leaves_frame edge_of
+  selected_left true ok e = same_sensor (Call.Select true) refl ok (ap (λ (z : Sensor). z.frame) reselected) (subst Chosen (sym reselected) h)
+  selected_left false ok e = absurd_bool e
+
+  kept_left : (c : Call) (f : Kept → Kept) → acts c ≡ Acts.keeps f → CallLeft c
+  unfolding leaves edge_of
+  kept_left c f a ok e = same_sensor c (rw a) ok (rw a) (rw a (record { on = h.on; ready = h.ready; loud = h.loud; selected = h.selected }))
+
   -- an accepted call leaves the frame as its edge does, or as it is, but for its driver; and the sensor goes on hearing SPI
   pub call_left : (c : Call) → accepts s c ≡ true → leaves_frame s c ≡ false → Left s c
-  unfolding leaves leaves_frame edge_of
-  call_left (Call.At now t) ok e = timed_left s now h t e ok
-  call_left (Call.Temperature x) ok e = same_sensor (Call.Temperature x) refl ok refl (record { on = h.on; ready = h.ready; loud = h.loud; selected = h.selected })
-  call_left (Call.Select true) ok e = same_sensor (Call.Select true) refl ok (ap (λ (z : Sensor). z.frame) reselected) (subst Chosen (sym reselected) h)
-  call_left (Call.Select false) ok e = absurd_bool e
-  call_left (Call.View address) ok e = same_sensor (Call.View address) refl ok refl h
-  call_left (Call.StoredImage now length) ok e = same_sensor (Call.StoredImage now length) refl ok refl h
+  unfolding leaves_frame
+  call_left = by_acts CallLeft (λ now t ok e. timed_left s now h t e ok) selected_left kept_left
