@@ -19,8 +19,8 @@ use Rattle.sensor.specs.declared.types.Kept.{Kept}
 use Rattle.sensor.specs.Image.{cell_byte, new_kept}
 use Rattle.samples.specs.Samples.{interaction_deadline}
 use Rattle.bma150.specs.declared.host.Bma150.{Bma150}
-use Rattle.bma150.specs.Called.{Added, measurement_of, start_number, leaves, called}
-use Rattle.book.specs.Does.{timed_does, does}
+use Rattle.bma150.specs.Called.{Acts, acts, left_by, Added, measurement_of, start_number, leaves, called}
+use Rattle.book.specs.Does.{act_does, timed_does, does}
 use Rattle.book.specs.Lists.{Answer, answer, accepts, step, Start, after, answers, accepted, Fractions, met_zero, last_kept, Returns}
 use Rattle.book.specs.Lists as L
 use Rattle.book.specs.Book.{opened, booked}
@@ -139,18 +139,20 @@ exists b p t q cs =
 
 -- ---- refusals
 
+act_last : (s : Bma150) (o : Acts) → (left_by s o).last ≡ moved s.last (act_does o).time
+unfolding moved timed_does
+act_last s (Acts.timed now (Timed.Accelerations input)) = refl
+act_last s (Acts.timed now (Timed.Supply rail)) = refl
+act_last s (Acts.timed now Timed.Due) = refl
+act_last s (Acts.timed now (Timed.Rising mosi)) = refl
+act_last s (Acts.timed now Timed.Falling) = refl
+act_last s (Acts.timed now (Timed.Pins before after)) = refl
+act_last s (Acts.select on) = refl
+act_last s (Acts.keeps f) = refl
+
 last_of : (s : Bma150) (c : Call) → (leaves s c).last ≡ moved s.last (does c).time
-unfolding leaves moved does timed_does
-last_of s (Call.At now (Timed.Accelerations input)) = refl
-last_of s (Call.At now (Timed.Supply rail)) = refl
-last_of s (Call.At now Timed.Due) = refl
-last_of s (Call.At now (Timed.Rising mosi)) = refl
-last_of s (Call.At now Timed.Falling) = refl
-last_of s (Call.At now (Timed.Pins before after)) = refl
-last_of s (Call.Temperature x) = refl
-last_of s (Call.Select on) = refl
-last_of s (Call.View address) = refl
-last_of s (Call.StoredImage now length) = refl
+unfolding leaves does
+last_of s c = act_last s (acts c)
 
 -- the last accepted time after a call
 time_after : (s : Bma150) (c : Call) → (step s c).last ≡ cond (accepts s c) (moved s.last (does c).time) s.last

@@ -19,7 +19,7 @@ use Rattle.sensor.specs.Image.{stock, new_kept}
 use Rattle.samples.specs.Samples.{interaction_deadline}
 use Rattle.bma150.specs.declared.host.Bma150.{Bma150}
 use Rattle.bma150.specs.Values.{drive_letter}
-use Rattle.bma150.specs.Called.{Added, number, leaves, adds, called, start_number, interrupt, output, data_output}
+use Rattle.bma150.specs.Called.{Acts, acts, Added, number, leaves, adds, called, start_number, interrupt, output, data_output}
 use Rattle.book.specs.Lists.{Answer, step, Start, started, met_zero, last_kept}
 use Rattle.book.specs.Book.{opened, booked}
 use Rattle.book.specs.Claim.{ending}
@@ -163,37 +163,33 @@ image_of_the_start = record {
 }
 
 -- a write that completes stores nothing
-unfoldable pub at_due : Bma150 → Bma150 → Call → Bma150
-at_due s t (Call.At now (Timed.Accelerations input)) = t
-at_due s t (Call.At now (Timed.Supply rail)) = t
-at_due s t (Call.At now Timed.Due) = unstored s t
-at_due s t (Call.At now (Timed.Rising mosi)) = t
-at_due s t (Call.At now Timed.Falling) = t
-at_due s t (Call.At now (Timed.Pins before after)) = t
-at_due s t (Call.Temperature x) = t
-at_due s t (Call.Select on) = t
-at_due s t (Call.View address) = t
-at_due s t (Call.StoredImage now n) = t
+unfoldable pub at_due : Bma150 → Bma150 → Acts → Bma150
+at_due s t (Acts.timed now (Timed.Accelerations input)) = t
+at_due s t (Acts.timed now (Timed.Supply rail)) = t
+at_due s t (Acts.timed now Timed.Due) = unstored s t
+at_due s t (Acts.timed now (Timed.Rising mosi)) = t
+at_due s t (Acts.timed now Timed.Falling) = t
+at_due s t (Acts.timed now (Timed.Pins before after)) = t
+at_due s t (Acts.select on) = t
+at_due s t (Acts.keeps k) = t
 
 abbrev pub completes_nothing : Wrong
-completes_nothing = leaving (λ s c. at_due s (step s c) c)
+completes_nothing = leaving (λ s c. at_due s (step s c) (acts c))
 
 -- what a supply call leaves is altered so
-unfoldable pub at_supply : (Bma150 → Bma150 → Bma150) → Bma150 → Bma150 → Call → Bma150
-at_supply f s t (Call.At now (Timed.Accelerations input)) = t
-at_supply f s t (Call.At now (Timed.Supply rail)) = f s t
-at_supply f s t (Call.At now Timed.Due) = t
-at_supply f s t (Call.At now (Timed.Rising mosi)) = t
-at_supply f s t (Call.At now Timed.Falling) = t
-at_supply f s t (Call.At now (Timed.Pins before after)) = t
-at_supply f s t (Call.Temperature x) = t
-at_supply f s t (Call.Select on) = t
-at_supply f s t (Call.View address) = t
-at_supply f s t (Call.StoredImage now n) = t
+unfoldable pub at_supply : (Bma150 → Bma150 → Bma150) → Bma150 → Bma150 → Acts → Bma150
+at_supply f s t (Acts.timed now (Timed.Accelerations input)) = t
+at_supply f s t (Acts.timed now (Timed.Supply rail)) = f s t
+at_supply f s t (Acts.timed now Timed.Due) = t
+at_supply f s t (Acts.timed now (Timed.Rising mosi)) = t
+at_supply f s t (Acts.timed now Timed.Falling) = t
+at_supply f s t (Acts.timed now (Timed.Pins before after)) = t
+at_supply f s t (Acts.select on) = t
+at_supply f s t (Acts.keeps k) = t
 
 -- a write that is cut leaves its cell as it was
 abbrev pub drops_cuts : Wrong
-drops_cuts = leaving (λ s c. at_supply unstored s (step s c) c)
+drops_cuts = leaving (λ s c. at_supply unstored s (step s c) (acts c))
 
 -- a refused call acts on the sensor
 abbrev pub refused_calls_act : Wrong
@@ -219,7 +215,7 @@ with_pointer x p = record { phase = x.phase; pointer = p; bits = x.bits; shift =
 
 abbrev pub keeps_pointer : Wrong
 keeps_pointer =
-    leaving (λ s c. at_supply (λ s t. record { sensor = with_i2c t.sensor (with_pointer t.sensor.i2c s.sensor.i2c.pointer); last = t.last }) s (step s c) c)
+    leaving (λ s c. at_supply (λ s t. record { sensor = with_i2c t.sensor (with_pointer t.sensor.i2c s.sensor.i2c.pointer); last = t.last }) s (step s c) (acts c))
 
 -- every call is refused
 abbrev pub refuses_everything : Wrong

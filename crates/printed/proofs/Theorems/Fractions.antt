@@ -3,6 +3,7 @@ use Rattle.std.specs.Prelude.{List, [], ◌∷◌, ◌++◌}
 use Rattle.time.specs.declared.Time.{Time}
 use Rattle.calls.specs.declared.types.Timed.{Timed}
 use Rattle.calls.specs.declared.types.Call.{Call}
+use Rattle.bma150.proofs.Theorems.Acts.{by_acts}
 use Rattle.commands.specs.Encode.{TimeFits, CallFits}
 use Rattle.book.specs.Lists.{FitsTimed, Fits, Fractions}
 use Rattle.printed.specs.Inputs.{AllFit}
@@ -17,11 +18,7 @@ timed_fraction now (Timed.Pins before after) f = f.1
 
 call_fraction : (c : Call) → CallFits c → Fits c
 unfolding CallFits
-call_fraction (Call.At now t) f = timed_fraction now t f.0
-call_fraction (Call.Temperature x) f = tt
-call_fraction (Call.Select on) f = tt
-call_fraction (Call.View address) f = tt
-call_fraction (Call.StoredImage now n) f = tt
+call_fraction = by_acts (λ c. CallFits c → Fits c) (λ now t f. timed_fraction now t f.0) (λ on f. tt) (λ c k e f. rw e tt)
 
 pub fractions_fit : (cs ds : List Call) → AllFit (cs ++ ds) → Fractions cs
 unfolding AllFit
