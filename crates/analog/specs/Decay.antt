@@ -44,7 +44,7 @@ series angle = (terms angle 12).sum
 unfoldable pub squared : Factors → Factors
 squared f = record { re = round (f.re *ℤ f.re -ℤ f.im *ℤ f.im) unit; im = round (pos 2 *ℤ f.re *ℤ f.im) unit }
 
--- an angle above a sixteenth is halved, and the result squared; at most so many times
+-- an angle above a sixteenth is halved, and the result squared; at most this many times
 unfoldable pub reduced : (most angle : ℕ) → Factors
 reduced zero angle = series angle
 reduced (suc most) angle = if nat_lt (unit / 16) angle then squared (reduced most (angle / 2)) else series angle
@@ -57,7 +57,7 @@ most_halvings = 10
 abbrev pub nothing : Factors
 nothing = record { re = pos 0; im = pos 0 }
 
--- `decay` of a length of so many units
+-- `decay` of a length of dt units
 unfoldable pub decay : (dt : ℕ) → Factors
 decay dt =
     if nat_le settling dt then nothing

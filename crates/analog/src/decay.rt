@@ -121,7 +121,7 @@ fn halved(angle: u64) -> (Angle, u8)
     (Angle { size }, squares)
 }
 
-// Squared so many times.
+// Squared n times.
 #[tactic(auto, unfolding(laws::specs::Iterate::iterate))]
 fn raised(f: Factors, squares: u8) -> Factors
     requires { (k : ℕ) → k ≤ squares → Below (iterate k D.squared f) }
@@ -134,7 +134,7 @@ fn raised(f: Factors, squares: u8) -> Factors
     g
 }
 
-// What remains after so many units of a second.
+// What remains after a length, in units of 2^-64 s.
 #[tactic(auto, using(crate::proofs::Theorems::Bounds::decay_nothing))]
 fn decay(dt: u64) -> Factors
     ensures { result ≡ D.decay dt }

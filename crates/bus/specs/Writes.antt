@@ -25,7 +25,7 @@ unfoldable pub seen_writes : List Seen → List (Option (ℕ × ℕ))
 seen_writes [] = []
 seen_writes (a ∷ l) = and_write (action_write a.deed) (seen_writes l)
 
--- 01: writes come in pairs of register and value; the register counts modulo 128
+-- 01: writes come in pairs of register and value; that the register counts modulo 128 is the Rust's rule
 unfoldable pub pair_writes : List Pair → List (Option (ℕ × ℕ))
 pair_writes [] = []
 pair_writes (p ∷ ps) = Some (p.register % 128, p.value) ∷ pair_writes ps

@@ -15,11 +15,11 @@ acquisition_delay ready = duration (lasts ready - scan)
 unfoldable pub acquisition_cycles : (window : ℕ) → ℕ
 acquisition_cycles window = if eqb window 1 then 1 else 2 * window
 
--- 01: pauses in milliseconds, chosen by wake_up_pause
+-- 01: pauses in milliseconds; wake_up_pause chooses one (data sheet)
 abbrev pub pauses : List ℕ
 pauses = 20 ∷ 80 ∷ 320 ∷ 2560 ∷ []
 
--- 01: motion needs this many in a row, chosen by any_motion_dur
+-- 01: motion needs this many in a row; any_motion_dur chooses one (data sheet)
 abbrev pub needs : List ℕ
 needs = 1 ∷ 3 ∷ 5 ∷ 7 ∷ []
 

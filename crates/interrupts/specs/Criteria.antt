@@ -27,7 +27,7 @@ clears high code threshold hysteresis =
 unfoldable pub raised : (high : Bool) (code : ℤ) (threshold hysteresis : ℕ) (old : Bool) → Bool
 raised high code threshold hysteresis old = if sets high code threshold then true else not (clears high code threshold hysteresis) && old
 
--- 01: low-g needs all axes; high-g one
+-- 01: low-g needs all axes; that one is enough for high-g is the Rust's rule
 unfoldable pub active : (high : Bool) (axes : List Bool) → Bool
 active high axes =
     if high

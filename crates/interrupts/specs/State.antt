@@ -116,7 +116,7 @@ count_motion s active =
     (if active then min 255 (s.motion.set + 1) else 0) (if active then 0 else min 255 (s.motion.clear + 1))
     active s.motion.level s.motion.latched
 
--- 01: motion needs so many in a row; enable_adv_INT lets it through
+-- 01: motion needs this many in a row; enable_adv_INT lets it through (data sheet)
 unfoldable pub qualifies : (set need : ℕ) (registers : Registers) → Bool
 qualifies set need registers = leb need set && enable_adv_INT (at registers operation)
 
@@ -128,7 +128,7 @@ alerts set need registers = qualifies set need registers && alert (at registers 
 unfoldable pub detects : (set need : ℕ) (registers : Registers) → Bool
 detects set need registers = qualifies set need registers && not (alert (at registers criteria)) && any_motion (at registers criteria)
 
--- so many in a row without motion end its level (the Rust's rule)
+-- this many in a row without motion end its level (the Rust's rule)
 unfoldable pub decide : Interrupts → (need : ℕ) (registers : Registers) → Interrupts
 decide s need registers =
     with_alert

@@ -127,7 +127,7 @@ impl Interrupts {
         }
     }
 
-    // What so many in a row bring about.
+    // What enough observations in a row do: alert, interrupt, end of the level.
     #[tactic(auto, unfolding(crate::specs::State::decide))]
     fn decide(self, need: u8, registers: [u8; 62]) -> Interrupts
         ensures { result ≡ decide self need registers }

@@ -29,7 +29,7 @@ sum_keeps b h l k m = omega (arith, add-mul h k b)
 pub sum_carries : (b h l k m : ℕ) → b ≤ l + m → h * b + l + (k * b + m) ≡ (h + k + 1) * b + (l + m - b)
 sum_carries b h l k m r = omega (arith, add-mul h k b, add-mul (h + k) 1 b)
 
--- one more, held to the last number of two digits: no carry, a carry, and the last number
+-- one more, clamped to the last number of two digits: no carry, a carry, and the last number
 pub next_keeps : (b h l : ℕ) → h < b → l + 1 < b → min (h * b + l + 1) (b * b - 1) ≡ h * b + (l + 1)
 next_keeps b h l p q = omega (arith, step b p)
 

@@ -35,7 +35,7 @@ without_new_data byte = byte / 2 * 2
 abbrev pub none_held : List (Option (List ℕ))
 none_held = None ∷ None ∷ None ∷ []
 
--- at the start: nothing is held or being sent, and the last high bytes are 0 (01, "Wrong turns")
+-- at the start: nothing is held or being sent (the Rust's rule), and the last high bytes are 0 (01, "Wrong turns")
 abbrev pub new : Reads
 new = record { shadows = none_held; last_msb = 0 ∷ 0 ∷ 0 ∷ []; sending = None }
 
@@ -77,7 +77,7 @@ prepared_from s pair = record { reads = record s { sending = Some (Shadowed.Low 
 abbrev pub prepared_low : Reads → (axis low high : ℕ) → Prepared
 prepared_low s axis low high = prepared_from s (pair s axis low high)
 
--- 01, "Wrong turns": a high byte is that of the held pair; before its low byte it is the last acknowledged one
+-- a high byte is that of the held pair (the Rust's rule); before its low byte it is the last acknowledged one (01, "Wrong turns")
 unfoldable pub high_byte : Reads → (axis : ℕ) → ℕ
 high_byte s axis = option_map_or (λ pair. get_or pair 1 0) (shadow s axis) (get_or s.last_msb axis 0)
 

@@ -1,7 +1,6 @@
 -- Which writes are ignored, which begin a stored write, and which reads are withheld. Addresses are hexadecimal.
 use Rattle.std.specs.Prelude.{◌%◌, Bool, not, ◌&&◌, ◌||◌, leb, eqb}
 use Rattle.laws.specs.Notation.{Byte, Address}
-use Rattle.laws.specs.Notation.{Byte, Address}
 use Rattle.registers.specs.declared.access.Gate.{Gate}
 use Rattle.registers.specs.Map.{control, ee_w}
 

@@ -6,7 +6,7 @@ use Rattle.std.specs.Int.Signed.{lt_z, quot_z}
 unfoldable pub held : (lo hi z : ℤ) → ℤ
 held lo hi z = if lt_z z lo then lo else if lt_z hi z then hi else z
 
--- 01: a quotient, towards zero
+-- a quotient, towards zero (01 has codes so)
 abbrev pub towards_zero : ℤ → ℕ → ℤ
 towards_zero z d = quot_z z (pos d)
 

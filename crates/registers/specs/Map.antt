@@ -1,5 +1,5 @@
 -- The register map of the data sheet: addresses, and the fields of a register's byte. Addresses are hexadecimal; a name is the
--- data sheet's, with - for _. Only what the Rust reads or writes is here.
+-- data sheet's. Only what the Rust reads or writes is here.
 use Rattle.std.specs.Prelude.{ℕ, ◌+◌, ◌*◌, ◌/◌, ◌%◌, Bool, get_or}
 use Rattle.laws.specs.Notation.{Byte, Address, Registers, cleared, with_bit}
 use Rattle.laws.specs.Bytes.{bit}
@@ -14,7 +14,7 @@ at registers address = get_or registers address 0
 abbrev pub chip_id : ℕ
 chip_id = 0x00
 
--- 01: al_version and ml_version
+-- address 01: al_version and ml_version
 abbrev pub version : ℕ
 version = 0x01
 

@@ -73,7 +73,7 @@ pub record Back {m : Host} {b : Start} {cs : List Call} (r : Ran m b cs) (now : 
   pub handed : m.serves back (Call.StoredImage now 19) left image
   pub put : image.adds ≡ Added.put bytes
 
--- 01: a timed call moves the last accepted time
+-- an accepted timed call's time is then the last accepted one
 unfoldable pub moved : (last : Time) → Option Time → Time
 moved last None = last
 moved last (Some now) = now

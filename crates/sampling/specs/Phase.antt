@@ -56,7 +56,7 @@ acquired s = leb (acquisition_cycles (window s.filter)) s.auto_cycles
 
 -- ---- one phase
 
--- 01: phases 0 to 3 in turn; the first edge has phase 0
+-- 01: four phases, 0 to 3; that they come in turn and the first edge has phase 0 is the Rust's rule
 abbrev pub phase_of : (ordinal : ℕ) → ℕ
 phase_of ordinal = (ordinal % 4 + 3) % 4
 

@@ -90,7 +90,7 @@ impl Acquisition {
         !has(self.registers[OPERATION], WAKE_UP) || self.sampling.acquired()
     }
 
-    // One scan in so many counts as an observation.
+    // How many scans make one observation.
     #[tactic(auto, unfolding(crate::specs::Phase::interval))]
     fn interval(&self) -> u8
         ensures { result ≡ P.interval self.now.registers self.now.sampling }

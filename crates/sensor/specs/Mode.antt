@@ -41,7 +41,7 @@ start_acquisition s now ready =
 
 -- ---- pauses
 
--- 01: pauses of 20, 80, 320 or 2560 ms, by wake_up_pause
+-- 01: pauses of 20, 80, 320 or 2560 ms; wake_up_pause chooses one (data sheet)
 abbrev pub pause_of : Sensor → Duration
 pause_of s = pause_length (wake_up_pause (at s.registers operation)) pauses
 

@@ -27,7 +27,7 @@ plus t d = time (ticks t + lasts d)
 abbrev pub since : Time → (earlier : Time) → Duration
 since t earlier = duration (ticks t - ticks earlier)
 
--- one unit later, held to the last moment (the Rust's `saturating_add(1)`)
+-- one unit later, clamped to the last moment (the Rust's `saturating_add(1)`)
 abbrev pub next_unit : Time → Time
 next_unit t = time (min (ticks t + 1) (2 ^ 128 - 1))
 

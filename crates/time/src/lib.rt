@@ -37,7 +37,7 @@ impl Time {
         u128::from(self.0) << 64 | u128::from(self.1)
     }
 
-    // The moment of so many units.
+    // The moment of n units.
     fn from_ticks(ticks: u128) -> Time
         ensures { result ≡ T.time ticks }
     {
@@ -89,7 +89,7 @@ impl Duration {
         u128::from(self.0) << 64 | u128::from(self.1)
     }
 
-    // The length of so many units.
+    // The length of n units.
     fn from_ticks(ticks: u128) -> Duration
         ensures { result ≡ T.duration ticks }
     {

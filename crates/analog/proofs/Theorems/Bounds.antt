@@ -239,7 +239,7 @@ reduced_halves most angle p = rw (lt-ltb (2 ^ 44) angle p)
 half_le : (angle b : ℕ) → angle ≤ 2 * b → angle / 2 ≤ b
 half_le angle b p = omega arith
 
--- an angle of at most 2^44 * 2^most is halved at most so many times
+-- an angle of at most 2^44 * 2^most is halved at most `most` times
 abbrev pub limit : ℕ → ℕ
 limit most = 2 ^ most * 2 ^ 44
 

@@ -74,7 +74,7 @@ module _ (trace : Bool) where
       → Goes (bench trace) beginning (l ++ later) w t.sensor (k ++ later) t.stop
   so_far {n} {l} {w} {t} {k} h e later = M.so_far (lawful trace) (renamed _ _ (same_between refl refl e refl) (led h)) later
 
-  -- ---- within the loop: so many turns done, from a reader with the bytes a and a writer with the bytes v
+  -- ---- within the loop: some number of turns done, from a reader with the bytes a and a writer with the bytes v
 
   pub record Upto (a b v w : Option (List ℕ)) (count : ℕ) (t : Turn) (k : List ℕ) : Type 0 where
     pub read : List ℕ

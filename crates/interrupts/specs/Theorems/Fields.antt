@@ -5,7 +5,7 @@ use Rattle.registers.specs.Map.{alert_phase, LG_latched, HG_latched, status_LG, 
 use Rattle.interrupts.specs.declared.Interrupts.{Interrupts}
 use Rattle.interrupts.specs.Pin.{weigh, status}
 
--- a field's weight is so many times its value, which is at most 1
+-- a field counts its weight, or 0
 scaled : (b : Bool) (n : ℕ) → weigh b n ≡ weigh b 1 * n
 scaled true n = omega arith
 scaled false n = omega arith

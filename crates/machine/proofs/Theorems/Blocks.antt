@@ -1,4 +1,4 @@
--- A block is so many turns of the whole run; and what the loop over a block has done so far.
+-- A block is some number of turns of the whole run; and what the loop over a block has done so far.
 use Rattle.std.specs.Prelude.{◌≡◌, Bool, cond, ◌⊎◌, ltb, drop, get_or}
 use Rattle.std.proofs.Math.Path.{refl, ap}
 use Rattle.std.proofs.Common.{sym, ◌∙◌}
@@ -135,7 +135,7 @@ module _ {S : Type 0} {m : Machine S} (laws : Lawful m) (over : Bool) (s : S) (l
       let same : block m over s l ≡ iterate (length l - 1) (pace m over) (pace m over start) = ap (λ (k : ℕ). iterate k (pace m over) start) e ∙ iterate_split 1 (length l - 1) (pace m over) start in
       rw same (omega (arith, less, never_more (pace m over) (λ c. pace_falls m over c laws) (length l - 1) (pace m over start)))
 
--- ---- a block is so many turns of the whole run, whatever follows its input while more comes
+-- ---- a block is some number of turns of the whole run, whatever follows its input while more comes
 
 -- nothing follows once the input is over
 abbrev pub Follows : Bool → List ℕ → Type 0

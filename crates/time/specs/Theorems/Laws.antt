@@ -48,7 +48,7 @@ seconds_div b f k s r p =
 pub ticks_fits : (h l : ℕ) → h < 2 ^ 64 → l < 2 ^ 64 → h * 2 ^ 64 + l < 2 ^ 128
 ticks_fits h l p q = digits_lt p q
 
--- a sum that is held to m, and one that is not
+-- a sum that is clamped to m, and one that is not
 pub held : (m w r : ℕ) → m - w < r → m ≡ min m (w + r)
 held m w r p = omega arith
 
