@@ -15,10 +15,6 @@ window_of shift = 2 ^ min shift 6
 abbrev pub window : Filter → ℕ
 window f = window_of f.shift
 
--- the histories of the three axes, one after the other (01 keeps them flat)
-abbrev pub histories : Filter → List ℤ
-histories f = f.history
-
 -- the ring of an axis that holds no code
 abbrev pub empty : Ring
 empty = record { next = 0; count = 0 }

@@ -4,7 +4,7 @@
 ghost use Rattle.std.specs.Prelude.{◌≡◌, ◌+◌, ◌-◌, ◌*◌, ◌^◌, ◌<◌, ◌≤◌, min, take, length};
 ghost use Rattle.std.specs.Int.Signed.{mag};
 ghost use Rattle.filter.specs.Mean.{ring, sumZ, mean};
-ghost use Rattle.filter.specs.Filter.{shift_of, window_of, window, histories, made, selected, grown, pushed, full, answered};
+ghost use Rattle.filter.specs.Filter.{shift_of, window_of, window, made, selected, grown, pushed, full, answered};
 
 // The ring of an axis: the place that is written next, and how many codes it holds.
 #[derive(Clone, Copy)]
@@ -113,13 +113,6 @@ impl Filter {
     {
         let shift = shift_of(bandwidth);
         Filter { shift, ..self }
-    }
-
-    // The codes of the three axes.
-    pub fn history(self) -> [i16; 192]
-        ensures { result ≡ histories self }
-    {
-        self.history
     }
 
     // A code comes on an axis: the filter after it, and what it answers. 01 takes the filter by value; `take_code` below is the same where

@@ -62,13 +62,6 @@ impl Sampling {
     {
         acquisition_cycles(self.filter.window()) <= self.auto_cycles
     }
-
-    // A public function stays, though nothing here calls it.
-    pub fn with_test(self, test: Option<u8>) -> Sampling
-        ensures { result ≡ P.with_test self test }
-    {
-        Sampling { test, ..self }
-    }
 }
 
 // The stage of an axis at the clock's last edge.

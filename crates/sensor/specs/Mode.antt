@@ -81,7 +81,7 @@ verifies s = verifying s.interrupts s.registers
 unfoldable pub pause_restarted : Sensor → (now : Time) → Sensor
 pause_restarted s now = if pauses_again s.sampling.asleep (is_set s.deadlines.pause) then pause s now else s
 
--- 330 µs
+-- a new criterion holds the pin for 330 us
 unfoldable pub interrupt_held : Sensor → (now : Time) (was_criterion : Bool) → Sensor
 interrupt_held s now was_criterion =
     if holds was_criterion (latch_INT (at s.registers operation)) (criterion s)
