@@ -29,8 +29,8 @@ abbrev pub resumed : Axis → (now : Time) → Axis
 resumed a now = record a { at = now }
 
 -- it stands still on the input
-abbrev pub settled : Axis → (input : ℤ) → Bool
-settled a input = same a.output (target input) && same a.velocity (pos 0)
+abbrev pub stands_on : Axis → (input : ℤ) → Bool
+stands_on a input = same a.output (target input) && same a.velocity (pos 0)
 
 -- one step, by what remains of distance and velocity
 unfoldable pub stepped : Axis → (now : Time) (input : ℤ) → Factors → Axis
@@ -46,7 +46,7 @@ stepped a now input f =
 unfoldable pub advanced : Axis → (now : Time) (input : ℤ) → Axis
 advanced a now input =
     let dt = lasts (since now a.at) in
-    if dt == 0 || settled a input then resumed a now else stepped a now input (factors dt)
+    if dt == 0 || stands_on a input then resumed a now else stepped a now input (factors dt)
 
 -- what `advance` answers: the lagged acceleration in millionths of g
 unfoldable pub value : Axis → ℤ
@@ -69,8 +69,8 @@ abbrev pub all_resumed : Analog → (now : Time) → Analog
 all_resumed g now = record { x = resumed g.x now; y = resumed g.y now; z = resumed g.z now }
 
 -- `hold_analog`: every axis advances
-unfoldable pub held : Analog → (now : Time) (input : Acceleration) → Analog
-held g now input = record { x = advanced g.x now input.x; y = advanced g.y now input.y; z = advanced g.z now input.z }
+unfoldable pub hold : Analog → (now : Time) (input : Acceleration) → Analog
+hold g now input = record { x = advanced g.x now input.x; y = advanced g.y now input.y; z = advanced g.z now input.z }
 
 -- a setting of an axis: where its input changes, it advances with the old one
 unfoldable pub turned : Axis → (now : Time) (old new : ℤ) → Axis

@@ -19,8 +19,8 @@ fn target_of(input: i32) -> i64
 }
 
 // It stands still on the input.
-fn settled(a: Axis, input: i32) -> bool
-    ensures { result ≡ Ax.settled a input }
+fn stands_on(a: Axis, input: i32) -> bool
+    ensures { result ≡ Ax.stands_on a input }
 {
     a.output == target_of(input) && a.velocity == 0
 }
@@ -65,7 +65,7 @@ impl Axis {
         ensures { result ≡ Ax.advanced self now input }
     {
         let d = now.since(self.at);
-        if d == Duration(0, 0) || settled(self, input) {
+        if d == Duration(0, 0) || stands_on(self, input) {
             return self.resume(now);
         }
         step(self, now, input, factors(d))
@@ -77,7 +77,7 @@ impl Axis {
     pub fn sample(self, now: Time, input: i32) -> Axis
         ensures { result ≡ Ax.advanced self now input }
     {
-        if settled(self, input) {
+        if stands_on(self, input) {
             return self.resume(now);
         }
         self.advance(now, input)
@@ -116,9 +116,9 @@ impl Analog {
     }
 
     // Every axis advances to this moment with its input (the Rust's `hold_analog`).
-    #[tactic(auto, unfolding(crate::specs::Axis::held))]
+    #[tactic(auto, unfolding(crate::specs::Axis::hold))]
     pub fn hold(self, now: Time, input: Acceleration) -> Analog
-        ensures { result ≡ Ax.held self now input }
+        ensures { result ≡ Ax.hold self now input }
     {
         self.zip_with(input, |a, input| a.advance(now, input))
     }

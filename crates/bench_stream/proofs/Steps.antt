@@ -24,7 +24,7 @@ module _ (trace : Bool) (t : Turn) (k : List ℕ) where
 
   -- a command that is not whole has few bytes
   room : is_whole false k ≡ false → length k < 65536
-  unfolding M.least
+  unfolding M.needed_bytes
   room few = omega (arith, L.short trace false k few, wants_few (get_or k 0 0))
 
   module _ (p : goes_on t k ≡ true) (more : t.over ≡ false) (few : is_whole false k ≡ false) {a b : Option (List ℕ)} {l : List ℕ} (o : List ℕ) (v : Option (List ℕ)) where

@@ -57,7 +57,7 @@ pub record Pushed : Type 0 where
   pub y_moved : lost.sensor.sampling.analog.y.at ≡ lost.last
 
 pub push_and_cut : Pushed
-unfolding after accepted C.after_start C.effect C.leaves T.unless_refused T.reserved T.turned_down T.start_refusal T.refusal T.first_found T.wrong_length T.beyond T.any_beyond T.out_of_range T.jumps T.late T.too_late T.goes_back T.due_by T.before_due T.due_at T.beside_due TF.timed_facts TF.facts DD.is_set BR.away DD.is_at DD.is_by DD.sooner DD.first DD.earliest BS.samples_run BS.next_sample BS.write_end BS.sample_due BS.next_deadline BS.samples_on_demand BS.sync_local_until BU.turned BU.cut BU.supply_low BU.set_supply ST.turned ST.held A.all_turned A.turned A.held BL.selected_to BL.may_select SF.differs
+unfolding after accepted C.after_start C.effect C.leaves T.unless_refused T.reserved T.turned_down T.start_refusal T.refusal T.first_found T.wrong_length T.beyond T.any_beyond T.out_of_range T.jumps T.late T.too_late T.goes_back T.due_by T.before_due T.due_at T.beside_due TF.timed_facts TF.facts DD.is_set BR.away DD.is_at DD.is_by DD.sooner DD.first DD.earliest BS.samples_run BS.next_sample BS.write_end BS.sample_due BS.next_deadline BS.samples_on_demand BS.sync_local_until BU.turned BU.cut BU.supply_low BU.set_supply ST.turned ST.hold A.all_turned A.turned A.hold BL.selected_to BL.may_select SF.differs
 push_and_cut =
     record {
       both_accepted = refl;

@@ -15,7 +15,7 @@ use Rattle.sensor.specs.Record.{away}
 use Rattle.sensor.specs.Image.{byte_at, with_cell}
 use Rattle.sensor.specs.Mode.{criterion}
 use Rattle.sensor.specs.Select.{may_select}
-use Rattle.waits.specs.Supply.{without_report, cut, held, power_off, zero_while_off, warm_return, cold_return, returned, supply_low, supply_ok, set_supply}
+use Rattle.waits.specs.Supply.{without_report, cut, hold_analog, power_off, zero_while_off, warm_return, cold_return, returned, supply_low, supply_ok, set_supply}
 use Rattle.waits.specs.Due.{waits_ended, pause_ended, completed, write_ended, hold_ends_now, at_deadline}
 use Rattle.book.proofs.Keeps.{Core, core, with_selected, select_core, waits_keeps, scalars_keeps, waits_served_keeps}
 
@@ -91,9 +91,9 @@ cut_is (Some w) s now = refl
 lost_is : (s : Sensor) (now : Time) (cold : Bool) → core (power_off s now cold).sensor ≡ lost (core s) now cold
 unfolding may_select
 lost_is s now cold =
-    let c = (cut s.writing (held s now) now).sensor in
+    let c = (cut s.writing (hold_analog s now) now).sensor in
     ap (λ (k : Core). supplied_by k (Some (record { since = now; cold = cold })))
-    (select_core c false ∙ ap (λ (k : Core). with_selected k false) (cut_is s.writing (held s now) now))
+    (select_core c false ∙ ap (λ (k : Core). with_selected k false) (cut_is s.writing (hold_analog s now) now))
 
 emptied_is : (s : Sensor) (o : Outage) (zero : Bool) → core (zero_while_off s o zero) ≡ cond zero (emptied (core s) o) (core s)
 unfolding zero_while_off

@@ -69,7 +69,7 @@ read_writes_nothing : (f : Frame) (mosi four : Bool) (a : ℕ) → f.serial ≡ 
 unfolding F.take_bit F.completed
 read_writes_nothing f mosi four a e = cond_both (ltb f.rx_bits 7) _ _ (λ (x : Taken). x.write ≡ None) (λ p. refl) (λ p. rw e refl)
 
--- only a read is noted
+-- only a read begins
 acknowledges_read : (x : Serial) (n a : ℕ) → F.first_bit x n ≡ Some a → (b : ℕ) × (x ≡ Serial.Read b)
 unfolding F.first_bit
 acknowledges_read Serial.Address n a e = absurd (let z : ◌≡◌ {A = ℕ} 0 1 = cc in omega arith)
@@ -90,7 +90,7 @@ bit_keeps t mosi now =
     then (done_keeps (F.take_bit t.frame mosi (four_wire t)).write t (F.take_bit t.frame mosi (four_wire t)).frame now (take_selected t.frame mosi (four_wire t)))
     (shift_keeps _ Clocked.Rise)
 
--- a noted read leaves the frame
+-- a read that begins leaves the frame
 noted_frame : (x : Option ℕ) (s : Sensor) (a : ℕ) → (byte_read x s a).frame ≡ s.frame
 unfolding byte_read
 noted_frame None s a = refl

@@ -100,13 +100,13 @@ unfoldable pub begun : Asked → (now : Time) → List Wrote → List Wrote
 begun a now l = if accepted_write a.write a.meets (runs (that_runs l)) then with_write a.write now l else l
 
 -- an accepted timed call first completes; then, by kind, it cuts or begins
-abbrev pub noted : List Wrote → Entry → List Wrote
-noted l e = begun e.asked e.time (map (cut_at e.rail e.time) (map (completed_at e.time) l))
+abbrev pub after_entry : List Wrote → Entry → List Wrote
+after_entry l e = begun e.asked e.time (map (cut_at e.rail e.time) (map (completed_at e.time) l))
 
 -- the writes after these calls, l being those before
 unfoldable pub written : List Wrote → List Entry → List Wrote
 written l [] = l
-written l (e ∷ es) = written (noted l e) es
+written l (e ∷ es) = written (after_entry l e) es
 
 -- the stored writes that began in a run, the latest first; at first none
 abbrev pub writes : Start → List Call → List Wrote
@@ -121,11 +121,11 @@ left_by Fate.completed old wanted address = wanted
 left_by (Fate.cut elapsed) old wanted address = byte old wanted (cell_number address) elapsed
 
 -- the starting byte, and on it what each write to the address left
-unfoldable pub held : (image : Image) → List Wrote → (address : Address) → Byte
-held image [] address = cell_byte image address
-held image (w ∷ earlier) address =
-    if eqb w.address address then left_by w.fate (held image earlier address) w.wanted address
-    else held image earlier address
+unfoldable pub cell_holds : (image : Image) → List Wrote → (address : Address) → Byte
+cell_holds image [] address = cell_byte image address
+cell_holds image (w ∷ earlier) address =
+    if eqb w.address address then left_by w.fate (cell_holds image earlier address) w.wanted address
+    else cell_holds image earlier address
 
 -- the latest write to an address, and the writes before it
 pub record Last : Type 0 where
@@ -139,7 +139,7 @@ latest address (w ∷ earlier) = if eqb w.address address then Some (record { wr
 -- the starting byte if no write to the address began, else what the latest one left
 unfoldable pub told : (image : Image) (address : Address) → Option Last → Byte
 told image address None = cell_byte image address
-told image address (Some l) = left_by l.write.fate (held image l.earlier address) l.write.wanted address
+told image address (Some l) = left_by l.write.fate (cell_holds image l.earlier address) l.write.wanted address
 
 -- ---- all cells
 
@@ -150,4 +150,4 @@ addresses first (suc n) = first ∷ addresses (first + 1) n
 
 -- the cells of addresses 2b..3d in order, after a run
 abbrev pub cells_after : Start → List Call → Image
-cells_after b cs = map (held b.image (writes b cs)) (addresses 0x2b 19)
+cells_after b cs = map (cell_holds b.image (writes b cs)) (addresses 0x2b 19)

@@ -62,18 +62,18 @@ edges (c ∷ cs) = and_some (edge_of c) (edges cs)
 abbrev pub at_fall : Sensor → (now : Time) → Sensor
 at_fall s now = fall_synced (sync_local_until s now false) now
 
--- after the note of a read, which comes first; the turnaround's rise notes none
-unfoldable pub noted : Sensor → Sensor
-noted m = if m.frame.turnaround then m else first_bit_taken (F.first_bit m.frame.serial m.frame.rx_bits) m
+-- after a read began, which comes first; at the turnaround's rise none begins
+unfoldable pub after_read_began : Sensor → Sensor
+after_read_began m = if m.frame.turnaround then m else first_bit_taken (F.first_bit m.frame.serial m.frame.rx_bits) m
 
 -- the byte that a register shows to a fetch: none where it is withheld
 abbrev pub sends : Sensor → ℕ → Option ℕ
 sends s r = (prepare_read s r).sent
 
--- at a rise: the wire mode that its bit meets, the one after the call, and what the registers show after the note
+-- at a rise: the wire mode that its bit meets, the one after the call, and what the registers show after a read began
 abbrev pub now_at_rise : Bma150 → (now : Time) (c : Call) → Now
 now_at_rise s now c =
-    let m = noted (at_rise s.sensor now) in
+    let m = after_read_began (at_rise s.sensor now) in
     record { four_wire = four_wire m; four_wire_then = four_wire (step s c).sensor; shows = sends m }
 
 -- at a fall
@@ -112,7 +112,7 @@ unfoldable pub timed_leaves : Sensor → (now : Time) → Timed → Bool
 timed_leaves s now (Timed.Accelerations input) = false
 timed_leaves s now (Timed.Supply rail) = ltb rail 2400
 timed_leaves s now Timed.Due = false
-timed_leaves s now (Timed.Rising mosi) = write_resets (noted (at_rise s now)) (spi_write (at_rise s now) mosi)
+timed_leaves s now (Timed.Rising mosi) = write_resets (after_read_began (at_rise s now)) (spi_write (at_rise s now) mosi)
 timed_leaves s now Timed.Falling = false
 timed_leaves s now (Timed.Pins before after) = false
 

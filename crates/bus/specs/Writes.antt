@@ -2,7 +2,7 @@
 use Rattle.std.specs.Prelude.{List, [], ◌∷◌, ◌%◌, if◌then◌else◌, Option, Some, None, ℕ}
 use Rattle.i2c.specs.Target.{Seen}
 use Rattle.i2c.specs.Transfers.{Pair}
-use Rattle.spi.specs.Lines.{Deed, Wrote, Fetched, Noted}
+use Rattle.spi.specs.Lines.{Deed, Wrote, Fetched, ReadBegan}
 use Rattle.spi.specs.Lines as L
 use Rattle.spi.specs.Courses as P
 use Rattle.calls.specs.declared.types.Call.{Call}
@@ -37,7 +37,7 @@ unfoldable pub deed_writes : List Deed → List (Option (ℕ × ℕ)) → List (
 deed_writes [] ws = ws
 deed_writes (Wrote address value ∷ ds) ws = Some (address, value) ∷ deed_writes ds ws
 deed_writes (Fetched address ∷ ds) ws = deed_writes ds ws
-deed_writes (Noted address ∷ ds) ws = deed_writes ds ws
+deed_writes (ReadBegan address ∷ ds) ws = deed_writes ds ws
 
 -- those among what is seen at the edges
 unfoldable pub edge_writes : List L.Seen → List (Option (ℕ × ℕ))

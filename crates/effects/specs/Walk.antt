@@ -29,7 +29,7 @@ use Rattle.sensor.specs.Select.{reselected}
 use Rattle.writes.specs.Write.{tested, measurement_written, durations_written, begun, write_kind}
 use Rattle.samples.specs.Samples.{after_edges, edges_until, samples_on_demand}
 use Rattle.serial.specs.I2cPins.{ones_for}
-use Rattle.waits.specs.Supply.{write_over, held, set_input}
+use Rattle.waits.specs.Supply.{write_over, hold_analog, set_input}
 use Rattle.waits.specs.Due.{waits_ended, image_loaded, sample_due_now}
 
 pub record Steps (now : Time) (R : Sensor → Sensor → Type 0) : Type 0 where
@@ -78,7 +78,7 @@ pub record Steps (now : Time) (R : Sensor → Sensor → Type 0) : Type 0 where
   pub loads : (s : Sensor) → R s (image_loaded s)
   pub wakes : (s : Sensor) → R s (with_sampling (with_deadlines s (with_wake s.deadlines None)) (with_clock s.sampling (Clock.started now)))
   -- ---- supply, acceleration, temperature and what is kept of the lines
-  pub stops : (s : Sensor) → R s (held s now)
+  pub stops : (s : Sensor) → R s (hold_analog s now)
   pub cuts : (s : Sensor) (w : StoredWrite) → s.writing ≡ Some w → R s (write_over s w.address (byte_at w s.nonvolatile now))
   pub goes_off : (s : Sensor) (cold : Bool) → R s (with_outage s (Some (record { since = now; cold = cold })))
   pub meets_zero : (s : Sensor) (o : Outage) → s.outage ≡ Some o → R s (with_outage s (Some (record o { cold = true })))

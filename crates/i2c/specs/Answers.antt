@@ -77,7 +77,7 @@ write_answer ps = (address_answer ++ acknowledge) ++ pairs_answer ps
 abbrev pub shows_bit : Byte → (n : ℕ) → Option Action → Seen
 shows_bit b n a = record { low = not (sent_bit b n); deed = a }
 
--- a byte read: fetched at the fall before its first bit, each bit from the fall before its clock to the fall after it, most significant first (UM10204 3.1.5); the read is noted at the first rise; free for the master's answer
+-- a byte read: fetched at the fall before its first bit, each bit from the fall before its clock to the fall after it, most significant first (UM10204 3.1.5); the read begins at the first rise; free for the master's answer
 abbrev pub byte_answer : (register : ℕ) → Byte → List Seen
 byte_answer p b =
     shows_bit b 0 (Some (A.Launch p)) ∷ shows_bit b 0 (Some (A.ReadBegan p))

@@ -73,7 +73,7 @@ bit_received s e = and_do (record s { bits = s.bits + 1; shift = shifted_in s.sh
 unfoldable pub pointer_after : (pointer n : ℕ) → ℕ
 pointer_after pointer n = if eqb n 7 then (pointer + 1) % 128 else pointer
 
--- the master takes bit n: at the first the read is noted
+-- the master takes bit n: at the first the read begins
 unfoldable pub bit_taken : State → ℕ → Step
 bit_taken s n =
     and_do (with_pointer s (P.Read (n + 1)) (pointer_after s.pointer n))

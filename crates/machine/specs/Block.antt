@@ -4,12 +4,12 @@ use Rattle.laws.specs.Iterate.{iterate}
 use Rattle.machine.specs.Machine.{Machine, Running, running, turn}
 
 -- the bytes that must be there for the command at the head: its own while input comes; any number once it is over
-unfoldable pub least : {S : Type 0} → Machine S → (over : Bool) (l : List ℕ) → ℕ
-least m over l = if over then 1 else m.wants (get_or l 0 0)
+unfoldable pub needed_bytes : {S : Type 0} → Machine S → (over : Bool) (l : List ℕ) → ℕ
+needed_bytes m over l = if over then 1 else m.wants (get_or l 0 0)
 
 -- a turn where enough bytes are left and its text fits, else nothing
-unfoldable pub pace : {S : Type 0} → Machine S → (over : Bool) → Running S → Running S
-pace m over b = if ltb (length b.left) (least m over b.left) then b else if ltb m.room (length b.text) then b else turn m b
+unfoldable pub bounded_turn : {S : Type 0} → Machine S → (over : Bool) → Running S → Running S
+bounded_turn m over b = if ltb (length b.left) (needed_bytes m over b.left) then b else if ltb m.room (length b.text) then b else turn m b
 
 unfoldable pub block : {S : Type 0} → Machine S → (over : Bool) → S → (l : List ℕ) → Running S
-block m over s l = iterate (length l) (pace m over) (running s l [] false)
+block m over s l = iterate (length l) (bounded_turn m over) (running s l [] false)

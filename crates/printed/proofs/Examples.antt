@@ -124,7 +124,7 @@ record Computed : Type 0 where
   same_kept : kept stock_start cut_write ≡ kept other_start no_write
 
 computed : Computed
-unfolding NC.mixed NC.low_half NC.threshold NC.crossing NC.bits_where NC.byte Ra.unwritable Ra.working Ra.stored Ra.image_blocks Ra.sleep_blocks Ra.locked Ra.ignores Ra.begins DD.is_set DD.is_at DD.is_by DD.sooner DD.unless_at DD.first DD.earliest CW.written_control CW.written_register CW.kind_of_write CW.self_test CW.sleep SF.differs SF.reads SF.first_bit SF.addressed SF.completed SF.take_bit SF.moves SF.shifts SF.consumes_at_rise BR.away BR.cold_of BR.runs Bi.cell_byte Bi.with_cell BC.pause_end BC.automatic_control BW.interrupts_written BW.tested BW.slept BW.image_written BW.register_effect BW.write_effect BS.samples_run BS.next_sample BS.write_end BS.sample_due BS.next_deadline BS.limit BS.caught_up BS.samples_on_demand BS.sync_local_until BL.selected_to BL.may_select BE.moved BE.first_bit_taken BE.write_done BE.spi_listens BE.rising_effect BE.rise_synced BU.cut BU.turned ST.held ST.turned BU.zero_while_off BU.returned BU.supply_low BU.supply_ok BU.set_supply TF.timed_facts TF.facts T.wrong_length T.out_of_range T.jumps T.late T.too_late T.goes_back T.due_by T.due_at T.before_due T.beside_due T.first_found T.refusal T.reserved T.turned_down T.start_refusal T.unless_refused C.after_start C.effect C.timed_adds C.leaves C.adds RL.after RL.accepted RL.zeroed RL.met_zero RL.last_kept RD.spi_write RD.timed_does RD.does RB.operation RB.completing RB.cutting RB.supplied RB.runs RB.accepted_write RB.of_write RB.began RB.changed_at RB.entered RB.booked PI.inputs PI.texts PL.text_of L.line L.pins L.added_text X.word X.bit X.report_text X.due_text CV.drive_letter CV.report_values BC.interrupt BC.shows_new_data BO.output BO.data_output BO.spi_drives BO.i2c_holds IP.output IP.threshold_output IP.motion_output IS.configure Bi.shadowing RL.answers E.start_byte E.call_bytes E.timed_bytes E.time_bytes E.bytes
+unfolding NC.mixed NC.low_half NC.threshold NC.crossing NC.bits_where NC.byte Ra.unwritable Ra.working Ra.stored Ra.image_blocks Ra.sleep_blocks Ra.locked Ra.ignores Ra.begins DD.is_set DD.is_at DD.is_by DD.sooner DD.unless_at DD.first DD.earliest CW.written_control CW.written_register CW.kind_of_write CW.self_test CW.sleep SF.differs SF.reads SF.first_bit SF.addressed SF.completed SF.take_bit SF.moves SF.shifts SF.consumes_at_rise BR.away BR.cold_of BR.runs Bi.cell_byte Bi.with_cell BC.pause_end BC.automatic_control BW.interrupts_written BW.tested BW.slept BW.image_written BW.register_effect BW.write_effect BS.samples_run BS.next_sample BS.write_end BS.sample_due BS.next_deadline BS.limit BS.caught_up BS.samples_on_demand BS.sync_local_until BL.selected_to BL.may_select BE.moved BE.first_bit_taken BE.write_done BE.spi_listens BE.rising_effect BE.rise_synced BU.cut BU.turned ST.hold ST.turned BU.zero_while_off BU.returned BU.supply_low BU.supply_ok BU.set_supply TF.timed_facts TF.facts T.wrong_length T.out_of_range T.jumps T.late T.too_late T.goes_back T.due_by T.due_at T.before_due T.beside_due T.first_found T.refusal T.reserved T.turned_down T.start_refusal T.unless_refused C.after_start C.effect C.timed_adds C.leaves C.adds RL.after RL.accepted RL.zeroed RL.met_zero RL.last_kept RD.spi_write RD.timed_does RD.does RB.operation RB.completing RB.cutting RB.supplied RB.runs RB.accepted_write RB.of_write RB.began RB.changed_at RB.entered RB.booked PI.inputs PI.texts PL.text_of L.line L.pins L.added_text X.word X.bit X.report_text X.due_text CV.drive_letter CV.report_values BC.interrupt BC.shows_new_data BO.output BO.data_output BO.spi_drives BO.i2c_holds IP.output IP.threshold_output IP.motion_output IS.configure Bi.shadowing RL.answers E.start_byte E.call_bytes E.timed_bytes E.time_bytes E.bytes
 computed = record { first_accepted = refl; first_returns = refl; first_from_zero = refl; first_book = refl; second_accepted = refl; second_returns = refl; second_from_zero = refl; second_book = refl; first_line = refl; second_input = refl; second_text = refl; same_kept = refl }
 
 -- ---- the operands fit

@@ -103,14 +103,14 @@ abbrev pub finished : Reads → (axis : ℕ) (sent : Byte) → Reads
 finished s axis sent = record s { shadows = set s.shadows axis None; last_msb = set s.last_msb axis sent }
 
 -- a low byte holds its pair, a high byte releases it
-unfoldable pub taken : Reads → (axis : ℕ) → Shadowed → (sent : Byte) → Reads
-taken s axis (Shadowed.Low pair) sent = holding s axis pair
-taken s axis Shadowed.High sent = finished s axis sent
+unfoldable pub sent_byte_read : Reads → (axis : ℕ) → Shadowed → (sent : Byte) → Reads
+sent_byte_read s axis (Shadowed.Low pair) sent = holding s axis pair
+sent_byte_read s axis Shadowed.High sent = finished s axis sent
 
 -- of what is being sent only a shadowed byte of an acceleration changes what is kept
 unfoldable pub began : Reads → (address : Address) → Option Shadowed → (sent : Byte) → Reads
 began s address None sent = s
-began s address (Some sending) sent = if is_acceleration address then taken s (axis_of address) sending sent else s
+began s address (Some sending) sent = if is_acceleration address then sent_byte_read s (axis_of address) sending sent else s
 
 -- what is being sent stays (the Rust's rule)
 abbrev pub read_began : Reads → (address : Address) (sent : Byte) → Reads

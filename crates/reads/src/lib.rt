@@ -168,7 +168,7 @@ impl Reads {
     }
 
     // The first bit of the byte `sent` was taken.
-    #[tactic(auto, unfolding(crate::specs::Reads::began, crate::specs::Reads::taken), using(crate::specs::Theorems::Pairs::axis_of_lt))]
+    #[tactic(auto, unfolding(crate::specs::Reads::began, crate::specs::Reads::sent_byte_read), using(crate::specs::Theorems::Pairs::axis_of_lt))]
     pub fn read_began(self, address: u8, sent: u8) -> Reads
         ensures { result ≡ R.read_began self address sent }
     {

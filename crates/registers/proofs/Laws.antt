@@ -12,7 +12,7 @@ use Rattle.laws.specs.Signed.{Reach, reach_sub, reach_pos, reach_mul, reach_add}
 use Rattle.std.specs.Int.{int_max, int_min}
 use Rattle.std.proofs.lemmas.Int.{ints}
 use lib.Signed.{◌≤ℤ◌}
-use Rattle.registers.specs.Codes.{held, towards_zero, range_g, scaled, code}
+use Rattle.registers.specs.Codes.{clamped, towards_zero, range_g, scaled, code}
 
 -- ---- the range
 pub range_within : (k : ℕ) → (0 < range_g k) × (range_g k ≤ 8)
@@ -87,16 +87,16 @@ large n m r p q h =
     let l : m * (r * 1000000) ≤ m * 8000000 = mul-le-mul_left m (omega arith) in
     (le-div_iff_mul-le {k = r * 1000000} {x = m} {y = n} (omega arith)).1 (omega arith)
 
-above_code : (z : ℤ) (r : ℕ) → 0 < r → r ≤ 8 → Above z (512 * 8000000) → held (negsuc 511) (pos 511) (towards_zero z (r * 1000000)) ≡ pos 511
-unfolding held
+above_code : (z : ℤ) (r : ℕ) → 0 < r → r ≤ 8 → Above z (512 * 8000000) → clamped (negsuc 511) (pos 511) (towards_zero z (r * 1000000)) ≡ pos 511
+unfolding clamped
 above_code z r p q a = rw (a.is, lt-ltb 511 (a.size / (r * 1000000)) (large a.size 512 r p q a.far))
 
-negated : (n : ℕ) → 512 < n → held (negsuc 511) (pos 511) (neg_ℤ (pos n)) ≡ negsuc 511
-unfolding held
+negated : (n : ℕ) → 512 < n → clamped (negsuc 511) (pos 511) (neg_ℤ (pos n)) ≡ negsuc 511
+unfolding clamped
 negated zero p = absurd (omega arith)
 negated (suc n) p = rw (lt-ltb 511 n (omega arith))
 
-below_code : (z : ℤ) (r : ℕ) → 0 < r → r ≤ 8 → Below z (513 * 8000000) → held (negsuc 511) (pos 511) (towards_zero z (r * 1000000)) ≡ negsuc 511
+below_code : (z : ℤ) (r : ℕ) → 0 < r → r ≤ 8 → Below z (513 * 8000000) → clamped (negsuc 511) (pos 511) (towards_zero z (r * 1000000)) ≡ negsuc 511
 below_code z r p q b = rw b.is (negated (suc b.size / (r * 1000000)) (large (suc b.size) 513 r p q (omega (arith, b.far))))
 
 module _ (o : ℕ) (ro : o < 2 ^ 16) (k : ℕ) where
@@ -113,8 +113,8 @@ module _ (o : ℕ) (ro : o < 2 ^ 16) (k : ℕ) where
       (below_far (below_mul (below_add n 9000000 ((pos o -ℤ pos 512) *ℤ pos 31250) ((65536 + (513 + 1)) * 31250) (r2 o ro) (omega arith))))
 
   -- an acceleration clamped to a million g has the code that it had
-  pub code_near : (a : ℤ) → code (held (negsuc 999999999999) (pos 1000000000000) a) o k ≡ code a o k
-  unfolding held
+  pub code_near : (a : ℤ) → code (clamped (negsuc 999999999999) (pos 1000000000000) a) o k ≡ code a o k
+  unfolding clamped
   code_near (pos n) = go (ltb 1000000000000 n) refl
     where
       go : (b : Bool) → ltb 1000000000000 n ≡ b → code (cond b (pos 1000000000000) (pos n)) o k ≡ code (pos n) o k
@@ -127,6 +127,6 @@ module _ (o : ℕ) (ro : o < 2 ^ 16) (k : ℕ) where
       go false e = refl
 
 -- ---- the library's clamp is `held`
-pub clamp_held : (lo hi z : ℤ) → lo ≤ℤ hi → int_max lo (int_min z hi) ≡ held lo hi z
-unfolding held
-clamp_held lo hi z p = grind (arith, ints)
+pub clamp_is : (lo hi z : ℤ) → lo ≤ℤ hi → int_max lo (int_min z hi) ≡ clamped lo hi z
+unfolding clamped
+clamp_is lo hi z p = grind (arith, ints)

@@ -3,8 +3,8 @@ use Rattle.std.specs.Prelude.{ℕ, ◌+◌, ◌-◌, ◌*◌, ◌/◌, ◌%◌, 
 use Rattle.std.specs.Int.Signed.{lt_z, quot_z}
 
 -- z clamped to lo..hi
-unfoldable pub held : (lo hi z : ℤ) → ℤ
-held lo hi z = if lt_z z lo then lo else if lt_z hi z then hi else z
+unfoldable pub clamped : (lo hi z : ℤ) → ℤ
+clamped lo hi z = if lt_z z lo then lo else if lt_z hi z then hi else z
 
 -- a quotient, towards zero (01 has codes so)
 abbrev pub towards_zero : ℤ → ℕ → ℤ
@@ -41,8 +41,8 @@ scaled acceleration offset = (acceleration +ℤ (pos offset -ℤ pos 512) *ℤ p
 
 -- 01: code, held to −512..511
 unfoldable pub code : (acceleration : ℤ) (offset range : ℕ) → ℤ
-code acceleration offset range = held (negsuc 511) (pos 511) (towards_zero (scaled acceleration offset) (range_g range * 1000000))
+code acceleration offset range = clamped (negsuc 511) (pos 511) (towards_zero (scaled acceleration offset) (range_g range * 1000000))
 
 -- 01: (thousandths + 30000) / 500 held to 0..255; towards zero is the Rust's rule
 unfoldable pub temperature : (millicelsius : ℤ) → ℕ
-temperature millicelsius = nat_abs (held (pos 0) (pos 255) (towards_zero (millicelsius +ℤ pos 30000) 500))
+temperature millicelsius = nat_abs (clamped (pos 0) (pos 255) (towards_zero (millicelsius +ℤ pos 30000) 500))

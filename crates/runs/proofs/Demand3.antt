@@ -30,7 +30,7 @@ use Rattle.book.proofs.Theorems.Closed.{by_latest}
 use Rattle.book.proofs.Lists.{after_more, start_is, bytes_of, claim}
 use Rattle.book.proofs.Closed.{all_over}
 use Rattle.book.proofs.Follows.{step_kept, started_kept}
-use Rattle.runs.specs.Demand3.{functions, Run, Ran, taken, Back, moved, Numbered, Demand3}
+use Rattle.runs.specs.Demand3.{functions, Run, Ran, accepted_calls, Back, moved, Numbered, Demand3}
 use Rattle.runs.proofs.Functions.{served_is, replies, start_answer, begun, starting}
 
 -- ---- a run is the definitions'
@@ -44,8 +44,8 @@ run_is {s} (Run.next {t = t} {u = u} {c = c} {a = a} {cs = cs} {out = out} p q) 
     (cc (e.0, e.1, r.0), r.1 ∙ ap (λ (x : Bma150). after x cs) e.0)
 
 -- the calls answered with 0 are those that the definitions accept
-pub taken_is : (s : Bma150) (cs : List Call) → taken cs (answers s cs) ≡ accepted s cs
-unfolding taken answers accepted
+pub taken_is : (s : Bma150) (cs : List Call) → accepted_calls cs (answers s cs) ≡ accepted s cs
+unfolding accepted_calls answers accepted
 taken_is s [] = refl
 taken_is s (c ∷ cs) = rw (taken_is (step s c) cs)
 
@@ -59,8 +59,8 @@ module _ {b : Start} {cs : List Call} (r : Ran functions b cs) where
   pub last_is : r.last ≡ after (L.started b) cs
   last_is = (run_is r.runs).1 ∙ ap (λ (x : Bma150). after x cs) first_is
 
-  pub accepted_are : taken cs r.out ≡ accepted (L.started b) cs
-  accepted_are = ap (λ (l : List Answer). taken cs l) out_is ∙ taken_is (L.started b) cs
+  pub accepted_are : accepted_calls cs r.out ≡ accepted (L.started b) cs
+  accepted_are = ap (λ (l : List Answer). accepted_calls cs l) out_is ∙ taken_is (L.started b) cs
 
   start_taken : start_number b.by b.time b.image ≡ 0
   start_taken = sym (ap (λ (a : Answer). a.number) (begun r.begins).1) ∙ r.accepted
@@ -96,7 +96,7 @@ module _ {b : Start} {cs : List Call} (r : Ran functions b cs) where
         ∙ ap (λ (a : Answer). a.adds) (served_is k.handed).1
         ∙ ap (λ (x : Bma150). (called x (Call.StoredImage now 19)).adds) back_is
 
-    kept_is : last_kept new_kept (taken cs r.out) ≡ L.kept b cs
+    kept_is : last_kept new_kept (accepted_calls cs r.out) ≡ L.kept b cs
     kept_is = ap (λ (l : List Call). last_kept new_kept l) accepted_are
 
 stored : {b : Start} {cs : List Call} {now : Time} {bytes : List ℕ} (r : Ran functions b cs) → Fractions cs → (k : Back r now bytes) → bytes ≡ (booked (opened b) (ending cs now k.rail)).cells
@@ -104,7 +104,7 @@ unfolding bytes_of
 stored {b} {cs} {now} r fits k = ap bytes_of (put_is r fits k ∙ claim.stored b cs now k.rail (returns r fits k))
 
 same : {b d : Start} {cs ds : List Call} {now : Time} {bytes : List ℕ} (r : Ran functions b cs) (q : Ran functions d ds) → Fractions cs → Fractions ds → (k : Back r now bytes) (j : Back q now bytes)
-    → last_kept new_kept (taken cs r.out) ≡ last_kept new_kept (taken ds q.out)
+    → last_kept new_kept (accepted_calls cs r.out) ≡ last_kept new_kept (accepted_calls ds q.out)
     → (further : List Call) {x y : Bma150} {f g : List Answer} → Run functions k.back further f x → Run functions j.back further g y → f ≡ g
 same {b} {d} {cs} {ds} {now} r q fits ok k j kept further p o =
     (run_is p).0

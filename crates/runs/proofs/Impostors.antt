@@ -23,7 +23,7 @@ use Rattle.bma150.specs.Called.{Acts, acts, Added, number, leaves, adds, called,
 use Rattle.book.specs.Lists.{Answer, step, Start, started, met_zero, last_kept}
 use Rattle.book.specs.Book.{opened, booked}
 use Rattle.book.specs.Claim.{ending}
-use Rattle.runs.specs.Demand3.{Host, Run, Ran, taken, Back, Demand3}
+use Rattle.runs.specs.Demand3.{Host, Run, Ran, accepted_calls, Back, Demand3}
 use Rattle.runs.proofs.Functions.{start_answer}
 use Rattle.runs.proofs.Scripts.{supply, due, frame, start, byte, released, Good, frame_good, start_good, byte_good, released_good, stock_start, completion, quarter, too_late, first_due, live, writing, writing_good}
 use Rattle.laws.specs.Bytes as LB
@@ -95,7 +95,7 @@ goes w s (c ∷ cs) = Run.next (refl, refl) (goes w (w.next s c) cs)
 
 -- what is computed of a list that comes back at `now` with 3000 mV and these bytes
 record Comes (w : Wrong) (cs : List Call) (now : Time) (bytes : List ℕ) : Type 0 where
-  zero : met_zero false (taken cs (outs w (w.first stock_start) cs)) ≡ true
+  zero : met_zero false (accepted_calls cs (outs w (w.first stock_start) cs)) ≡ true
   accepted : (w.says (ends w (w.first stock_start) cs) (supply now 3000)).number ≡ 0
   put : (w.says (w.next (ends w (w.first stock_start) cs) (supply now 3000)) (Call.StoredImage now 19)).adds ≡ Added.put bytes
 
@@ -329,23 +329,23 @@ record Computed : Type 0 where
   book_waits : booked_byte awake later ≡ 20
   comes_off : Comes refused_calls_act off (time 0) stock
   comes_accelerated : Comes refused_calls_act accelerated (time 0) stock
-  same_kept : last_kept new_kept (taken off (outs refused_calls_act (started stock_start) off)) ≡ last_kept new_kept (taken accelerated (outs refused_calls_act (started stock_start) accelerated))
+  same_kept : last_kept new_kept (accepted_calls off (outs refused_calls_act (started stock_start) off)) ≡ last_kept new_kept (accepted_calls accelerated (outs refused_calls_act (started stock_start) accelerated))
   at_rest : viewed (shown (last_answer (further refused_calls_act off sampling))) ≡ 0
   at_a_thousand : viewed (shown (last_answer (further refused_calls_act accelerated sampling))) ≡ 0x7f
   pointer_off : Comes keeps_pointer off (time 0) stock
   pointer_set : Comes keeps_pointer pointed (time 0) stock
-  pointer_kept : last_kept new_kept (taken off (outs keeps_pointer (started stock_start) off)) ≡ last_kept new_kept (taken pointed (outs keeps_pointer (started stock_start) pointed))
+  pointer_kept : last_kept new_kept (accepted_calls off (outs keeps_pointer (started stock_start) off)) ≡ last_kept new_kept (accepted_calls pointed (outs keeps_pointer (started stock_start) pointed))
   reads_chip_id : letter (last_answer (further keeps_pointer off reading)) ≡ 76
   reads_elsewhere : letter (last_answer (further keeps_pointer pointed reading)) ≡ 70
   counter_off : Comes answers_by_a_counter off (time 0) stock
   counter_on : Comes answers_by_a_counter selected (time 0) stock
-  counter_kept : last_kept new_kept (taken off (outs answers_by_a_counter (answers_by_a_counter.first stock_start) off)) ≡ last_kept new_kept (taken selected (outs answers_by_a_counter (answers_by_a_counter.first stock_start) selected))
+  counter_kept : last_kept new_kept (accepted_calls off (outs answers_by_a_counter (answers_by_a_counter.first stock_start) off)) ≡ last_kept new_kept (accepted_calls selected (outs answers_by_a_counter (answers_by_a_counter.first stock_start) selected))
   counts_two : viewed (shown (last_answer (further answers_by_a_counter off viewing))) ≡ 2
   counts_three : viewed (shown (last_answer (further answers_by_a_counter selected viewing))) ≡ 3
   view_accepted : T.refusal (time 0) (start_answer stock_start).next_due new_kept.lines (Call.View 0) ≡ 0
 
 computed : Computed
-unfolding LB.all_shifted_in LI.iterate NC.mixed NC.low_half NC.threshold NC.crossing NC.bits_where NC.byte FF.pushed FF.full FF.answered FM.tabulate FM.ring FM.sumZ FM.mean NR.sets NR.clears NR.raised NR.active NR.observe NR.fires NR.counted NP.motion_output NP.threshold_output NP.output NP.enables_motion NP.verifying_motion NP.candidate NP.verifying NS.configure NS.restart_acquisition NS.reset NS.axis NS.moved NS.moves NS.count_motion NS.qualifies NS.alerts NS.detects NS.decide NS.observation NS.cycle NS.shorten NS.lapsed NS.ended NS.millisecond IB.data_moves IB.edge IB.is_condition IB.is_start IB.is_rise IB.is_fall IB.data_at IE.conditioned IE.acknowledging IE.within_byte IE.pointer_after IE.bit_taken IE.byte_step IE.at_ninth IE.followed IE.acknowledge_step IE.answered IE.answer IE.answer_step IE.ninth_step IE.addressed IE.received IE.completes IE.completed IE.step IE.uses_as IE.uses_at_rise IE.reads_next IE.goes_on IE.uses_at_fall IE.consumes_conversion Ra.unwritable Ra.working Ra.stored Ra.image_blocks Ra.sleep_blocks Ra.locked Ra.ignores Ra.begins Ra.unreadable Ra.withheld RC.held RC.signed_ten RC.range_g RC.code RC.temperature DD.is_set DD.is_at DD.is_by DD.sooner DD.unless_at DD.later DD.first DD.earliest CW.written_control CW.written_register CW.kind_of_write CW.self_test CW.sleep CA.holds CA.pauses_again CA.may_pause CL.acquisition_cycles SF.differs SF.select SF.reads SF.first_bit SF.addressed SF.completed SF.take_bit SF.moves SF.fetches SF.shifts SF.bit_drive SF.level SF.next_bit SF.moved SF.consumes_at_rise SF.consumes_at_fall RR.is_acceleration RR.is_shadowed RR.pair RR.high_byte RR.prepared RR.began RR.taken SP.converted SP.all_new SP.ready SP.interval SP.observing SP.observed SP.scanned SP.test_counted SP.axis_phase SP.sample_phase SP.ticks_now SP.ticked SP.sample BR.away BR.cold_of BR.runs BR.tests Bi.cell_byte Bi.with_cell Bi.image_at Bi.shadowing BC.pause_end BC.shows_new_data BC.interrupt BC.pause_restarted BC.interrupt_held BC.pause_if_idle BC.automatic_control BC.reset_time BG.shown BG.peek BG.mark BG.mark_of BG.fetched BG.counts_as_read BG.byte_read BW.recounted BW.interrupts_written BW.tested BW.slept BW.image_written BW.mode_written BW.register_effect BW.write_effect BS.samples_run BS.next_sample BS.write_end BS.sample_due BS.next_deadline BS.limit BS.caught_up BS.samples_on_demand BS.sync_local_until BL.selected_to BL.may_select BE.moved BE.first_bit_taken BE.write_done BE.spi_listens BE.rising_effect BE.rise_synced BE.fall_synced BE.falling_effect BP.i2c_listens BP.ones_for BP.acted BP.i2c_pins BP.pins_synced BO.spi_drives BO.output BO.i2c_holds BO.data_output BU.cut BU.turned ST.held ST.turned AR.round AR.bits_64 AR.signed_64 AD.term AD.terms AD.squared AD.reduced AD.decay AD.factors AX.stepped AX.advanced AX.value AX.held AX.turned AX.all_turned AX.axis_of AX.with_axis BU.zero_while_off BU.reacquired BU.returned BU.supply_low BU.supply_ok BU.set_supply BD.pause_ended BD.write_ended BD.image_ended BD.wake_ended BD.sample_ended BD.verifies TF.timed_facts TF.facts T.refusal_number T.number T.wrong_length T.beyond T.any_beyond T.out_of_range T.jumps T.late T.too_late T.goes_back T.due_by T.before_due T.due_at T.beside_due T.first_found T.refusal T.reserved T.turned_down T.start_refusal T.unless_refused C.after_start C.reported C.put_in C.effect C.timed_adds C.leaves C.adds BV.drive_letter BV.report_values BV.view_value BV.mark_letter RD.spi_write RD.action_write RD.i2c_write RD.timed_does RD.does RL.after RL.answers RL.accepted RL.zeroed RL.met_zero RL.last_kept RB.operation RB.completing RB.cutting RB.supplied RB.runs RB.accepted_write RB.of_write RB.began RB.changed_at RB.entered RB.booked taken ends outs handing at_due at_supply counting last_answer
+unfolding LB.all_shifted_in LI.iterate NC.mixed NC.low_half NC.threshold NC.crossing NC.bits_where NC.byte FF.pushed FF.full FF.answered FM.tabulate FM.ring FM.sumZ FM.mean NR.sets NR.clears NR.raised NR.active NR.observe NR.fires NR.counted NP.motion_output NP.threshold_output NP.output NP.enables_motion NP.verifying_motion NP.candidate NP.verifying NS.configure NS.restart_acquisition NS.reset NS.axis NS.moved NS.moves NS.count_motion NS.qualifies NS.alerts NS.detects NS.decide NS.observation NS.cycle NS.shorten NS.lapsed NS.ended NS.millisecond IB.data_moves IB.edge IB.is_condition IB.is_start IB.is_rise IB.is_fall IB.data_at IE.conditioned IE.acknowledging IE.within_byte IE.pointer_after IE.bit_taken IE.byte_step IE.at_ninth IE.followed IE.acknowledge_step IE.answered IE.answer IE.answer_step IE.ninth_step IE.addressed IE.received IE.completes IE.completed IE.step IE.uses_as IE.uses_at_rise IE.reads_next IE.goes_on IE.uses_at_fall IE.consumes_conversion Ra.unwritable Ra.working Ra.stored Ra.image_blocks Ra.sleep_blocks Ra.locked Ra.ignores Ra.begins Ra.unreadable Ra.withheld RC.clamped RC.signed_ten RC.range_g RC.code RC.temperature DD.is_set DD.is_at DD.is_by DD.sooner DD.unless_at DD.later DD.first DD.earliest CW.written_control CW.written_register CW.kind_of_write CW.self_test CW.sleep CA.holds CA.pauses_again CA.may_pause CL.acquisition_cycles SF.differs SF.select SF.reads SF.first_bit SF.addressed SF.completed SF.take_bit SF.moves SF.fetches SF.shifts SF.bit_drive SF.level SF.next_bit SF.moved SF.consumes_at_rise SF.consumes_at_fall RR.is_acceleration RR.is_shadowed RR.pair RR.high_byte RR.prepared RR.began RR.sent_byte_read SP.converted SP.all_new SP.ready SP.interval SP.observing SP.observed SP.scanned SP.test_counted SP.axis_phase SP.sample_phase SP.ticks_now SP.ticked SP.sample BR.away BR.cold_of BR.runs BR.tests Bi.cell_byte Bi.with_cell Bi.image_at Bi.shadowing BC.pause_end BC.shows_new_data BC.interrupt BC.pause_restarted BC.interrupt_held BC.pause_if_idle BC.automatic_control BC.reset_time BG.shown BG.peek BG.mark BG.mark_of BG.fetched BG.counts_as_read BG.byte_read BW.recounted BW.interrupts_written BW.tested BW.slept BW.image_written BW.mode_written BW.register_effect BW.write_effect BS.samples_run BS.next_sample BS.write_end BS.sample_due BS.next_deadline BS.limit BS.caught_up BS.samples_on_demand BS.sync_local_until BL.selected_to BL.may_select BE.moved BE.first_bit_taken BE.write_done BE.spi_listens BE.rising_effect BE.rise_synced BE.fall_synced BE.falling_effect BP.i2c_listens BP.ones_for BP.acted BP.i2c_pins BP.pins_synced BO.spi_drives BO.output BO.i2c_holds BO.data_output BU.cut BU.turned ST.hold ST.turned AR.round AR.bits_64 AR.signed_64 AD.term AD.terms AD.squared AD.reduced AD.decay AD.factors AX.stepped AX.advanced AX.value AX.hold AX.turned AX.all_turned AX.axis_of AX.with_axis BU.zero_while_off BU.reacquired BU.returned BU.supply_low BU.supply_ok BU.set_supply BD.pause_ended BD.write_ended BD.image_ended BD.wake_ended BD.sample_ended BD.verifies TF.timed_facts TF.facts T.refusal_number T.number T.wrong_length T.beyond T.any_beyond T.out_of_range T.jumps T.late T.too_late T.goes_back T.due_by T.before_due T.due_at T.beside_due T.first_found T.refusal T.reserved T.turned_down T.start_refusal T.unless_refused C.after_start C.reported C.put_in C.effect C.timed_adds C.leaves C.adds BV.drive_letter BV.report_values BV.view_value BV.mark_letter RD.spi_write RD.action_write RD.i2c_write RD.timed_does RD.does RL.after RL.answers RL.accepted RL.zeroed RL.met_zero RL.last_kept RB.operation RB.completing RB.cutting RB.supplied RB.runs RB.accepted_write RB.of_write RB.began RB.changed_at RB.entered RB.booked accepted_calls ends outs handing at_due at_supply counting last_answer
 computed = record {
   remembers = record { zero = refl; accepted = refl; put = refl };
   stores_nothing = record { zero = refl; accepted = refl; put = refl };
@@ -411,7 +411,7 @@ nothing_due_refused d =
 
 -- two that come back alike at 0 and answer a further list differently
 not_same : (w : Wrong) (cs on : List Call) → Good cs → Comes w off (time 0) stock → Comes w cs (time 0) stock
-    → last_kept new_kept (taken off (outs w (w.first stock_start) off)) ≡ last_kept new_kept (taken cs (outs w (w.first stock_start) cs))
+    → last_kept new_kept (accepted_calls off (outs w (w.first stock_start) off)) ≡ last_kept new_kept (accepted_calls cs (outs w (w.first stock_start) cs))
     → Demand3 (host w) → last_answer (further w off on) ≡ last_answer (further w cs on)
 not_same w cs on g h k e d =
     ap last_answer (d.same (ran w off) (ran w cs) (tt, tt) g.good (back w off (time 0) stock h) (back w cs (time 0) stock k) e on (goes w _ on) (goes w _ on))

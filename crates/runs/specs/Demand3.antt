@@ -54,16 +54,16 @@ pub record Ran (m : Host) (b : Start) (cs : List Call) : Type 0 where
   pub runs : Run m first cs out last
 
 -- the calls that the run itself answered with 0: those that were accepted
-unfoldable pub taken : List Call → List Answer → List Call
-taken [] out = []
-taken (c ∷ cs) [] = []
-taken (c ∷ cs) (a ∷ out) = if eqb a.number 0 then c ∷ taken cs out else taken cs out
+unfoldable pub accepted_calls : List Call → List Answer → List Call
+accepted_calls [] out = []
+accepted_calls (c ∷ cs) [] = []
+accepted_calls (c ∷ cs) (a ∷ out) = if eqb a.number 0 then c ∷ accepted_calls cs out else accepted_calls cs out
 
 -- 01: supply comes back from 0 mV with an accepted supply call of 2400 or more, 0 mV accepted since the last such or since the start; and the stored-image call right after it, at its time, hands out these bytes
 pub record Back {m : Host} {b : Start} {cs : List Call} (r : Ran m b cs) (now : Time) (bytes : List ℕ) : Type 0 where
   pub rail : ℕ
   pub on : 2400 ≤ rail
-  pub zero : met_zero false (taken cs r.out) ≡ true
+  pub zero : met_zero false (accepted_calls cs r.out) ≡ true
   pub back : m.Sensor
   pub reply : Answer
   pub returns : m.serves r.last (Call.At now (Timed.Supply rail)) back reply
@@ -94,7 +94,7 @@ pub record Demand3 (m : Host) : Type 1 where
       → bytes ≡ (booked (opened b) (ending cs now k.rail)).cells
   -- two that come back so at one moment with equal bytes, acceleration, temperature and levels of the last report give the same answers to every further list
   pub same : {b d : Start} {cs ds : List Call} {now : Time} {bytes : List ℕ} (r : Ran m b cs) (q : Ran m d ds) → Fractions cs → Fractions ds → (k : Back r now bytes) (j : Back q now bytes)
-      → last_kept new_kept (taken cs r.out) ≡ last_kept new_kept (taken ds q.out)
+      → last_kept new_kept (accepted_calls cs r.out) ≡ last_kept new_kept (accepted_calls ds q.out)
       → (further : List Call) {x y : m.Sensor} {f g : List Answer} → Run m k.back further f x → Run m j.back further g y → f ≡ g
   -- two runs of one list from one sensor, each call by value or lent, answer alike and leave the same sensor
   pub alike : {s x y : m.Sensor} {cs : List Call} {f g : List Answer} → Run m s cs f x → Run m s cs g y → (f ≡ g) × (x ≡ y)

@@ -16,8 +16,8 @@ abbrev pub resumed : Sampling → (now : Time) → Sampling
 resumed s now = with_analog s (A.all_resumed s.analog now)
 
 -- awake, every axis advances with its input (`hold_analog`, before a pause and a loss of supply)
-unfoldable pub held : Sampling → (now : Time) (input : Input) → Sampling
-held s now input = if s.asleep then s else with_analog s (A.held s.analog now input.acceleration)
+unfoldable pub hold : Sampling → (now : Time) (input : Input) → Sampling
+hold s now input = if s.asleep then s else with_analog s (A.hold s.analog now input.acceleration)
 
 -- awake, every axis whose input changes advances with the old one (`set_input`)
 unfoldable pub turned : Sampling → (now : Time) (old new : Acceleration) → Sampling

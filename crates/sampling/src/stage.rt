@@ -26,9 +26,9 @@ impl Sampling {
         self.with_analog(self.analog.resume(now))
     }
 
-    #[tactic(auto, unfolding(crate::specs::Stage::held))]
+    #[tactic(auto, unfolding(crate::specs::Stage::hold))]
     pub fn hold(self, now: Time, input: Input) -> Sampling
-        ensures { result ≡ S.held self now input }
+        ensures { result ≡ S.hold self now input }
     {
         if self.asleep {
             return self;

@@ -53,7 +53,7 @@ pause_end s now = if automatic s then Some (plus now (pause_of s)) else None
 abbrev pub pause : Sensor → (now : Time) → Sensor
 pause s now =
     with_frame
-    (with_deadlines (with_sampling s (with_asleep (Stage.held s.sampling now s.kept.input) true)) (with_pause (with_wake s.deadlines None) (pause_end s now)))
+    (with_deadlines (with_sampling s (with_asleep (Stage.hold s.sampling now s.kept.input) true)) (with_pause (with_wake s.deadlines None) (pause_end s now)))
     (F.released s.frame)
 
 -- ---- the interrupt pin

@@ -67,7 +67,7 @@ acceleration_read s address sent =
     (R.read_began s.reads address sent))
     (with_ready s.sampling false)
 
--- asleep or quiet nothing is noted
+-- asleep or quiet no read begins
 unfoldable pub counts_as_read : Sensor → (address : Address) → Bool
 counts_as_read s address = not s.sampling.asleep && (not (is_quiet s) && R.is_acceleration address)
 

@@ -27,7 +27,7 @@ shift_output s at = moved (F.shifts s.frame at (four_wire s)) s
 
 -- ---- SPI rise (`rising_at`)
 
--- the read of a byte is noted at its first bit
+-- the read of a byte begins at its first bit
 unfoldable pub first_bit_taken : Option ℕ → Sensor → Sensor
 first_bit_taken None s = s
 first_bit_taken (Some a) s = read_began s a

@@ -5,7 +5,7 @@ use Rattle.spi.specs.declared.types.Serial.TheVariants as S
 use Rattle.spi.specs.declared.types.Drive.{Drive}
 use Rattle.spi.specs.declared.types.Drive.TheVariants as D
 use Rattle.spi.specs.declared.types.Frame.{Frame}
-use Rattle.spi.specs.Lines.{Deed, Wrote, Fetched, Noted, Now, Seen, shown}
+use Rattle.spi.specs.Lines.{Deed, Wrote, Fetched, ReadBegan, Now, Seen, shown}
 use Rattle.spi.specs.Courses.{Pair, Levels8}
 
 -- ---- bytes of the master's
@@ -61,10 +61,10 @@ register_after a (o ∷ os) = register_after (next_register a) os
 
 -- ---- four-wire reads
 
--- a byte from its first rise on, which notes the read: each fall shows the next bit
+-- a byte from its first rise on, at which the read begins: each fall shows the next bit
 abbrev pub four_wire_rises : (register : ℕ) → Option ℕ → List Seen
 four_wire_rises a t =
-    shows_bit_and t 7 (Noted a ∷ []) ∷ shows_bit t 6 ∷ shows_bit t 6 ∷ shows_bit t 5 ∷ shows_bit t 5 ∷ shows_bit t 4 ∷ shows_bit t 4
+    shows_bit_and t 7 (ReadBegan a ∷ []) ∷ shows_bit t 6 ∷ shows_bit t 6 ∷ shows_bit t 5 ∷ shows_bit t 5 ∷ shows_bit t 4 ∷ shows_bit t 4
     ∷ shows_bit t 3 ∷ shows_bit t 3 ∷ shows_bit t 2 ∷ shows_bit t 2 ∷ shows_bit t 1 ∷ shows_bit t 1 ∷ shows_bit t 0 ∷ shows_bit_and t 0 [] ∷ []
 
 -- a byte: the fall before its first rise fetches it and shows its first bit
@@ -91,10 +91,10 @@ four_wire_answer a os ns = address_answer ++ four_wire_bytes a os (drop 15 ns)
 abbrev pub turnaround_answer : (register : ℕ) → Option ℕ → List Seen
 turnaround_answer a t = floats ∷ shows_bit_and t 7 (Fetched a ∷ []) ∷ []
 
--- a byte up to its eighth fall: its first rise notes the read, and each rise shows the next bit
+-- a byte up to its eighth fall: at its first rise the read begins, and each rise shows the next bit
 abbrev pub three_wire_bits : (register : ℕ) → Option ℕ → List Seen
 three_wire_bits a t =
-    shows_bit t 7 ∷ shows_bit_and t 6 (Noted a ∷ []) ∷ shows_bit t 6 ∷ shows_bit t 5 ∷ shows_bit t 5 ∷ shows_bit t 4 ∷ shows_bit t 4
+    shows_bit t 7 ∷ shows_bit_and t 6 (ReadBegan a ∷ []) ∷ shows_bit t 6 ∷ shows_bit t 5 ∷ shows_bit t 5 ∷ shows_bit t 4 ∷ shows_bit t 4
     ∷ shows_bit t 3 ∷ shows_bit t 3 ∷ shows_bit t 2 ∷ shows_bit t 2 ∷ shows_bit t 1 ∷ shows_bit t 1 ∷ shows_bit t 0 ∷ shows_bit t 0 ∷ []
 
 -- a byte: its eighth rise fetches the next one and shows its first bit

@@ -37,7 +37,7 @@ reads S.Address = false
 reads (S.Read a) = true
 reads (S.Write a) = false
 
--- the first bit of a byte that is read notes the read (`acknowledge_read`)
+-- at the first bit of a byte that is read the read begins (`acknowledge_read`)
 unfoldable pub first_bit : Serial → (bits : ℕ) → Option ℕ
 first_bit S.Address bits = None
 first_bit (S.Read a) bits = if eqb bits 0 then Some a else None

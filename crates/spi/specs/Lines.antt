@@ -15,11 +15,11 @@ pub data Event : Type 0 where
   Rise : Bool → Event
   Fall : Event
 
--- what the sensor does: it writes a value at a register, fetches a register's byte to send it, or notes that a register is read
+-- what the sensor does: it writes a value at a register, fetches a register's byte to send it, or takes the read of a register as begun
 pub data Deed : Type 0 where
   Wrote : ℕ → ℕ → Deed
   Fetched : ℕ → Deed
-  Noted : ℕ → Deed
+  ReadBegan : ℕ → Deed
 
 -- the sensor at an event: the wire mode that the event meets, the one after the event's write, and the byte that a register shows to a fetch (nothing where it is withheld)
 pub record Now : Type 0 where
@@ -57,10 +57,10 @@ serve n f Fall = output n.shows f (fall_shift n f)
 
 -- ---- what is done at an event
 
--- the note of a read as a deed
-unfoldable pub noted : Option ℕ → List Deed
-noted None = []
-noted (Some a) = Noted a ∷ []
+-- a read that begins, as a deed
+unfoldable pub read_deeds : Option ℕ → List Deed
+read_deeds None = []
+read_deeds (Some a) = ReadBegan a ∷ []
 
 -- the write of a completed frame as a deed
 unfoldable pub wrote : Option (ℕ × ℕ) → List Deed
@@ -73,9 +73,9 @@ fetched H.Stay = []
 fetched (H.Fetch a) = Fetched a ∷ []
 fetched H.Next = []
 
--- what a rise outside a turnaround does: the note, the write, the fetch
+-- what a rise outside a turnaround does: a read begins, a write, a fetch
 abbrev pub bit_deeds : Now → Option ℕ → Taken → List Deed
-bit_deeds n k t = noted k ++ (wrote t.write ++ fetched (rise_shift n t))
+bit_deeds n k t = read_deeds k ++ (wrote t.write ++ fetched (rise_shift n t))
 
 -- what an event does, in order
 unfoldable pub deeds : Now → Frame → Event → List Deed

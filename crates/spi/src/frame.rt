@@ -49,7 +49,7 @@ impl Serial {
         matches!(self, Serial::Read(_))
     }
 
-    // The first bit of a byte that is read notes the read.
+    // At the first bit of a byte that is read the read begins.
     #[tactic(auto, unfolding(crate::specs::Frame::first_bit))]
     fn first_bit(self, bits: u8) -> Option<u8>
         ensures { result ≡ F.first_bit self bits }
@@ -108,7 +108,7 @@ impl Frame {
         self
     }
 
-    // The register whose read is noted at this rise.
+    // The register whose read begins at this rise.
     pub fn first_bit(self) -> Option<u8>
         ensures { result ≡ F.first_bit self.serial self.rx_bits }
     {

@@ -42,13 +42,13 @@ off s now cold =
     with_outage (with_i2c t (E.aborted t.i2c)) (Some (record { since = now; cold = cold }))
 
 -- awake, the stage is brought up to now first
-abbrev pub held : Sensor → (now : Time) → Sensor
-held s now = with_sampling s (Stage.held s.sampling now s.kept.input)
+abbrev pub hold_analog : Sensor → (now : Time) → Sensor
+hold_analog s now = with_sampling s (Stage.hold s.sampling now s.kept.input)
 
 -- (`power_off`, called only with supply); 0 mV makes the return a cold one
 abbrev pub power_off : Sensor → (now : Time) (cold : Bool) → Served
 power_off s now cold =
-    let c = cut s.writing (held s now) now in
+    let c = cut s.writing (hold_analog s now) now in
     record { sensor = off c.sensor now cold; report = c.report }
 
 -- while off only 0 mV matters

@@ -54,8 +54,8 @@ fn off(sensor: Sensor, now: Time, cold: bool) -> Sensor
     s
 }
 
-fn held(mut sensor: Sensor, now: Time) -> Sensor
-    ensures { result ≡ Sup.held sensor now }
+fn hold_analog(mut sensor: Sensor, now: Time) -> Sensor
+    ensures { result ≡ Sup.hold_analog sensor now }
 {
     sensor.sampling = sensor.sampling.hold(now, sensor.kept.input);
     sensor
@@ -64,7 +64,7 @@ fn held(mut sensor: Sensor, now: Time) -> Sensor
 fn power_off(sensor: Sensor, now: Time, cold: bool) -> Served
     ensures { result ≡ Sup.power_off sensor now cold }
 {
-    let c = cut(held(sensor, now), now);
+    let c = cut(hold_analog(sensor, now), now);
     Served {
         sensor: off(c.sensor, now, cold),
         ..c

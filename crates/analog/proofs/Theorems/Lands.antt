@@ -11,7 +11,7 @@ use Rattle.time.specs.Time.{lasts, time, since}
 use Rattle.analog.specs.declared.types.Axis.{Axis}
 use Rattle.analog.specs.Round.{round, low_64, bits_64, signed_64}
 use Rattle.analog.specs.Decay.{unit, settling, factors, nothing}
-use Rattle.analog.specs.Axis.{signal, target, same, settled, resumed, stepped, advanced, value}
+use Rattle.analog.specs.Axis.{signal, target, same, stands_on, resumed, stepped, advanced, value}
 use Rattle.analog.proofs.Theorems.Near.{round_pos, round_signed}
 use Rattle.analog.proofs.Theorems.Sizes.{abs_mul, low_keeps, low_keeps_abs, both_true}
 use Rattle.analog.proofs.Theorems.Bounds.{decay_nothing}
@@ -41,7 +41,7 @@ same_refl (pos a) = let e : ltb a a ≡ false = le-ltb a a (omega arith) in rw e
 same_refl (negsuc a) = let e : ltb a a ≡ false = le-ltb a a (omega arith) in rw e
 
 -- an axis that stands on the input has its output and no velocity
-pub settled_true : (a : Axis) (input : ℤ) → settled a input ≡ true → (a.output ≡ target input) × (a.velocity ≡ pos 0)
+pub settled_true : (a : Axis) (input : ℤ) → stands_on a input ≡ true → (a.output ≡ target input) × (a.velocity ≡ pos 0)
 settled_true a input e =
     let h = both_true (same a.output (target input)) (same a.velocity (pos 0)) e in
     (same_true a.output (target input) h.0, same_true a.velocity (pos 0) h.1)
@@ -107,12 +107,12 @@ lands : (a : Axis) (now : Time) (input : ℤ) → settling ≤ lasts (since now 
 unfolding advanced
 lands a now input p f =
     let none : nat_eq (lasts (since now a.at)) 0 ≡ false = ne_eqb (lasts (since now a.at)) 0 (positive (lasts (since now a.at)) p) in
-    rw none (go (settled a input) refl)
+    rw none (go (stands_on a input) refl)
   where
     positive : (n : ℕ) → settling ≤ n → n ≢ 0
     positive n p e = omega arith
 
-    go : (b : Bool) → settled a input ≡ b
+    go : (b : Bool) → stands_on a input ≡ b
         → (if b then resumed a now else stepped a now input (factors (lasts (since now a.at)))) ≡ record { at = now; output = target input; velocity = pos 0 }
     go true e = let h = settled_true a input e in same_parts now h.0 h.1
     go false e =

@@ -11,7 +11,7 @@ use Rattle.time.specs.Clock.{edge_ticks, edge}
 use Rattle.analog.specs.declared.types.Axis.{Axis}
 use Rattle.analog.specs.Round.{round, low_64, bits_64, signed_64}
 use Rattle.analog.specs.Decay.{unit, period, term, terms, squared, reduced, decay, factors}
-use Rattle.analog.specs.Axis.{target, settled, resumed, stepped, advanced, value}
+use Rattle.analog.specs.Axis.{target, stands_on, resumed, stepped, advanced, value}
 use Rattle.analog.proofs.Theorems.Sizes.{div_mono, abs_add, abs_sub, abs_mul_le, abs_round_le, low_keeps_abs}
 use Rattle.analog.specs.Theorems.Common.{common_pair}
 use Rattle.analog.proofs.Theorems.Common.{factors_common, samples_apart}
@@ -125,9 +125,9 @@ not_none dt (inr e) = ne_eqb dt 0 (λ z. let h : period + 1 ≡ 0 = sym e ∙ z 
 advanced_near : (a : Axis) (t : Time) (input : ℤ) (M : ℕ) → FitsSigned w32 input → M ≤ most → A_period t a.at → Near M a input
     → Near (shrink M) (advanced a t input) input
 unfolding advanced
-advanced_near a t input M f p e near = rw (not_none (lasts (since t a.at)) e) (go (settled a input) refl)
+advanced_near a t input M f p e near = rw (not_none (lasts (since t a.at)) e) (go (stands_on a input) refl)
   where
-    go : (b : Bool) → settled a input ≡ b
+    go : (b : Bool) → stands_on a input ≡ b
         → Near (shrink M) (if b then resumed a t else stepped a t input (factors (lasts (since t a.at)))) input
     go true s = let h = settled_true a input s in on_input (shrink M) (resumed a t) input h.0 h.1
     go false s = rw (factors_common (lasts (since t a.at)) e) (stepped_near a t input M f p near)
@@ -135,7 +135,7 @@ advanced_near a t input M f p e near = rw (not_none (lasts (since t a.at)) e) (g
 -- an axis that has advanced stands at that moment
 pub advanced_at : (a : Axis) (t : Time) (input : ℤ) → (advanced a t input).at ≡ t
 unfolding advanced stepped
-advanced_at a t input = go (lasts (since t a.at) == 0 || settled a input)
+advanced_at a t input = go (lasts (since t a.at) == 0 || stands_on a input)
   where
     go : (b : Bool) → (if b then resumed a t else stepped a t input (factors (lasts (since t a.at)))).at ≡ t
     go true = refl
@@ -217,7 +217,7 @@ settles_value a ts input o v i s n = value_target (followed a ts input) input (s
 -- ---- it stays
 
 -- the test for standing on the input holds
-on_settled : (a : Axis) (input : ℤ) → On a input → settled a input ≡ true
+on_settled : (a : Axis) (input : ℤ) → On a input → stands_on a input ≡ true
 on_settled a input h = rw (h.0, h.1, same_refl (target input))
 
 -- the first of two where the second test holds
@@ -229,7 +229,7 @@ either false s x y e = rw e
 pub stays : (a : Axis) (now : Time) (input : ℤ) → On a input → advanced a now input ≡ resumed a now
 unfolding advanced
 stays a now input h =
-    either (lasts (since now a.at) == 0) (settled a input) (resumed a now) (stepped a now input (factors (lasts (since now a.at))))
+    either (lasts (since now a.at) == 0) (stands_on a input) (resumed a now) (stepped a now input (factors (lasts (since now a.at))))
     (on_settled a input h)
 
 -- and so does any number of them

@@ -3,7 +3,7 @@ use Rattle.std.proofs.Common.{sym, ap, ◌∙◌, arith, length-drop}
 use Rattle.std.proofs.lemmas.Bool.{false≢true}
 use Rattle.std.proofs.lemmas.List.{take_rest}
 use Rattle.machine.specs.Machine.{running}
-use Rattle.machine.specs.Block.{pace}
+use Rattle.machine.specs.Block.{bounded_turn}
 use Rattle.machine.proofs.Theorems.Blocks.{begun, pace_short, pace_full, pace_stopped, stopped_turn}
 use Rattle.bench.specs.Run.{bench}
 use Rattle.bench.specs.Theorems.Loop.{short, some, advance, went, going, finished}
@@ -51,7 +51,7 @@ pub returns : goal.returns
 returns c =
     let ran = c.loop-stop in
     let b = running ran.sensor ran.left.now ran.out.items ran.stop in
-    let still : pace (bench c.args.trace) c.args.over b ≡ b = elim c.loop-stop-test.branch [
+    let still : bounded_turn (bench c.args.trace) c.args.over b ≡ b = elim c.loop-stop-test.branch [
       | then-loop-stop-test+then-len-le-ROOM+else-is_whole w ↦ pace_short _ _ _ (short c.args.trace c.args.over _ (sym w.if-is_whole.ensures))
       | then-loop-stop-test+else-len-le-ROOM w ↦ pace_full _ _ _ (omega (arith, w.len.ensures.value, w.if-len-le-ROOM.false))
       | else-loop-stop-test w ↦ pace_stopped _ _ _ (stopped_turn _ _ w.loop-stop-test.false)

@@ -17,12 +17,12 @@ use Rattle.bench.specs.Theorems.Lawful.{lawful}
 
 -- ---- a whole command is one that the block takes
 
-pub enough : (trace over : Bool) (l : List ℕ) → is_whole over l ≡ true → M.least (bench trace) over l ≤ length l
-unfolding is_whole M.least
+pub enough : (trace over : Bool) (l : List ℕ) → is_whole over l ≡ true → M.needed_bytes (bench trace) over l ≤ length l
+unfolding is_whole M.needed_bytes
 enough trace over l e = leb-true _ (length l) e
 
-pub short : (trace over : Bool) (l : List ℕ) → is_whole over l ≡ false → length l < M.least (bench trace) over l
-unfolding is_whole M.least
+pub short : (trace over : Bool) (l : List ℕ) → is_whole over l ≡ false → length l < M.needed_bytes (bench trace) over l
+unfolding is_whole M.needed_bytes
 short trace over l e = leb-false _ (length l) e
 
 pub some : (over : Bool) (l : List ℕ) → is_whole over l ≡ true → 0 < length l
@@ -66,7 +66,7 @@ module _ (trace : Bool) {over : Bool} {s : Bma150} {input : List ℕ} {n : Bma15
   going h b = subst (λ (z : Bool). Upto (bench trace) over s input n l text z) h b
 
   -- the loop is left: the block is done
-  pub finished : {z : Bool} (b : Upto (bench trace) over s input n l text z) → M.pace (bench trace) over (running n l text z) ≡ running n l text z
+  pub finished : {z : Bool} (b : Upto (bench trace) over s input n l text z) → M.bounded_turn (bench trace) over (running n l text z) ≡ running n l text z
       → (record { sensor = n; read = length input - length l; stop = z } ≡ answer (length input) (block trace over s input))
       × (text ≡ (block trace over s input).text)
       × ((block trace over s input).left ≡ drop (length input - length l) input)

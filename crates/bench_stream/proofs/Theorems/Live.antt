@@ -72,8 +72,8 @@ module _ (trace : Bool) where
   over_by_nothing (Turns.more {n} {l} {w} {t} {u} {k} {m} {piece} {text} h p d) e = over_did h (λ o. over_by_nothing h o) d e
 
   module _ (t : Turn) (k : List ℕ) (p : goes_on t k ≡ true) where
-    taking : (o : Bool) → t.over ≡ o → Enough t k → B.least (bench trace) o k ≤ length k
-    unfolding B.least
+    taking : (o : Bool) → t.over ≡ o → Enough t k → B.needed_bytes (bench trace) o k ≤ length k
+    unfolding B.needed_bytes
     taking true e enough = (going t k p).some_kept e
     taking false e enough =
         ⊎_elim

@@ -23,7 +23,7 @@ use Rattle.effects.specs.Theorems.Sizes.{cell_length}
 use Rattle.book.specs.Does.{Asked, does}
 use Rattle.book.specs.Lists.{Start, accepts, step}
 use Rattle.book.specs.Book.{Running, Book, book, with_rest, struck, opened, filled, closed, completing, completed, cutting, supplied, runs, accepted_write, of_write, began, changed_at, changed, entered, booked}
-use Rattle.book.specs.Closed.{Entry, with_entry, entries, Fate, Wrote, with_fate, is_running, as_running, that_runs, ended, completed_at, is_low, cut_at, with_write, begun, noted, written, writes, left_by, held, latest, told, addresses, cells_after}
+use Rattle.book.specs.Closed.{Entry, with_entry, entries, Fate, Wrote, with_fate, is_running, as_running, that_runs, ended, completed_at, is_low, cut_at, with_write, begun, after_entry, written, writes, left_by, cell_holds, latest, told, addresses, cells_after}
 
 -- ---- one cell is set
 
@@ -99,16 +99,16 @@ leaves_old Fate.running old wanted address e = refl
 leaves_old Fate.completed old wanted address e = cc
 leaves_old (Fate.cut elapsed) old wanted address e = cc
 
-unseen : (image : List ℕ) (w : Wrote) (l : List Wrote) (address : ℕ) → is_running w.fate ≡ true → held image (w ∷ l) address ≡ held image l address
-unfolding held
-unseen image w l address e = cond_both (eqb w.address address) _ _ (λ (x : ℕ). x ≡ held image l address) (λ p. leaves_old w.fate (held image l address) w.wanted address e) (λ p. refl)
+unseen : (image : List ℕ) (w : Wrote) (l : List Wrote) (address : ℕ) → is_running w.fate ≡ true → cell_holds image (w ∷ l) address ≡ cell_holds image l address
+unfolding cell_holds
+unseen image w l address e = cond_both (eqb w.address address) _ _ (λ (x : ℕ). x ≡ cell_holds image l address) (λ p. leaves_old w.fate (cell_holds image l address) w.wanted address e) (λ p. refl)
 
 -- ---- book and list agree: the cells and the running write of the one are those of the other
 
 record Agrees (image : List ℕ) (k : Book) (l : List Wrote) : Type 0 where
   pub size : length k.cells ≡ 19
   pub running : k.running ≡ that_runs l
-  pub cells : (address : ℕ) → cell_byte k.cells address ≡ held image l address
+  pub cells : (address : ℕ) → cell_byte k.cells address ≡ cell_holds image l address
   pub proper : Proper l
 
 same_agrees : {image : List ℕ} {k n : Book} {l m : List Wrote} → Agrees image k l → n ≡ k → m ≡ l → Agrees image n m
@@ -120,7 +120,7 @@ left_closed k w f = closed k (as_running w) (left_by f (cell_byte k.cells w.addr
 
 closing : (image : List ℕ) (k : Book) (w : Wrote) (l : List Wrote) (f : Fate) → is_running w.fate ≡ true → is_running f ≡ false → Agrees image k (w ∷ l)
     → Agrees image (left_closed k w f) (with_fate w f ∷ l)
-unfolding held
+unfolding cell_holds
 closing image k w l f e n h =
     record {
       size = cell_length _ _ _ h.size;
@@ -132,16 +132,16 @@ closing image k w l f e n h =
     value : ℕ
     value = left_by f (cell_byte k.cells w.address) w.wanted w.address
 
-    before : (a : ℕ) → cell_byte k.cells a ≡ held image l a
+    before : (a : ℕ) → cell_byte k.cells a ≡ cell_holds image l a
     before a = h.cells a ∙ unseen image w l a e
 
-    own : (a : ℕ) → w.address ≡ a → cell_byte (with_cell k.cells w.address value) a ≡ left_by f (held image l a) w.wanted a
+    own : (a : ℕ) → w.address ≡ a → cell_byte (with_cell k.cells w.address value) a ≡ left_by f (cell_holds image l a) w.wanted a
     own a p =
-        subst (λ (x : ℕ). cell_byte (with_cell k.cells w.address value) x ≡ left_by f (held image l x) w.wanted x) p
+        subst (λ (x : ℕ). cell_byte (with_cell k.cells w.address value) x ≡ left_by f (cell_holds image l x) w.wanted x) p
         (cell_set k.cells w.address value h.proper.0 h.size ∙ ap (λ (x : ℕ). left_by f x w.wanted w.address) (before w.address))
 
     go : (a : ℕ) (b : Bool) → eqb w.address a ≡ b
-        → cell_byte (with_cell k.cells w.address value) a ≡ cond b (left_by f (held image l a) w.wanted a) (held image l a)
+        → cell_byte (with_cell k.cells w.address value) a ≡ cond b (left_by f (cell_holds image l a) w.wanted a) (cell_holds image l a)
     go a true p = own a (eqb-true w.address a p)
     go a false p = cell_other k.cells w.address value a h.proper.0 (eqb-false w.address a p) ∙ before a
 
@@ -240,7 +240,7 @@ begun_agrees image k l a now h =
 -- ---- one call, and every list of calls
 
 noted_agrees : (image : List ℕ) (k : Book) (l : List Wrote) (e : Entry) → Agrees image k l
-    → Agrees image (began (supplied e.rail (completed k e.time) e.time) e.asked e.time) (noted l e)
+    → Agrees image (began (supplied e.rail (completed k e.time) e.time) e.asked e.time) (after_entry l e)
 noted_agrees image k l e h =
     begun_agrees image _ _ e.asked e.time (supplied_agrees image _ _ e.rail e.time (completed_agrees image k l e.time h))
 
@@ -248,7 +248,7 @@ noted_agrees image k l e h =
 rest_agrees : {image : List ℕ} {k : Book} {l : List Wrote} (rest : Bma150) → Agrees image k l → Agrees image (with_rest k rest) l
 rest_agrees rest h = record { size = h.size; running = h.running; cells = h.cells; proper = h.proper }
 
--- what holds of the list after this call holds of it before the call's entry is noted
+-- what holds of the list after this call holds of it before the call's entry comes
 entered_agrees : (image : List ℕ) (k : Book) (c : Call) (l : List Wrote) (later : List Entry) (P : List Wrote → Type 0) → Agrees image k l
     → ((m : List Wrote) → Agrees image (entered k c) m → P (written m later))
     → P (written l (cond (accepts (filled k) c) (with_entry (does c).time (does c) (filled k).sensor later) later))
@@ -281,13 +281,13 @@ booked_agrees image k (c ∷ cs) l h =
 -- ---- the sentence
 
 -- a cell's byte by the latest write to it
-pub held_is : (image : List ℕ) (l : List Wrote) (address : ℕ) → held image l address ≡ told image address (latest address l)
-unfolding held latest told
-held_is image [] address = refl
-held_is image (w ∷ l) address = go (eqb w.address address) (held_is image l address)
+pub holds_told : (image : List ℕ) (l : List Wrote) (address : ℕ) → cell_holds image l address ≡ told image address (latest address l)
+unfolding cell_holds latest told
+holds_told image [] address = refl
+holds_told image (w ∷ l) address = go (eqb w.address address) (holds_told image l address)
   where
-    go : (b : Bool) → held image l address ≡ told image address (latest address l)
-        → cond b (left_by w.fate (held image l address) w.wanted address) (held image l address)
+    go : (b : Bool) → cell_holds image l address ≡ told image address (latest address l)
+        → cond b (left_by w.fate (cell_holds image l address) w.wanted address) (cell_holds image l address)
         ≡ told image address (cond b (Some (record { write = w; earlier = l })) (latest address l))
     go true e = refl
     go false e = e
@@ -319,7 +319,7 @@ image_is image f size same =
 
 module _ (b : Start) (accepted : start_number b.by b.time b.image ≡ 0) (cs : List Call) where
   agrees : Agrees b.image (booked (opened b) cs) (writes b cs)
-  unfolding that_runs held
+  unfolding that_runs cell_holds
   agrees =
       booked_agrees b.image (opened b) cs []
       (record { size = start_length b.by b.time (length b.image) _ (ap (λ (n : ℕ). eqb n 0) accepted); running = refl; cells = λ a. refl; proper = tt })
@@ -329,16 +329,16 @@ module _ (b : Start) (accepted : start_number b.by b.time b.image ≡ 0) (cs : L
   nineteen = agrees.size
 
   -- each holds what the writes that began in the run left of the starting byte
-  pub closed_form : (address : ℕ) → cell_byte (booked (opened b) cs).cells address ≡ held b.image (writes b cs) address
+  pub closed_form : (address : ℕ) → cell_byte (booked (opened b) cs).cells address ≡ cell_holds b.image (writes b cs) address
   closed_form address = agrees.cells address
 
   -- that is the starting byte if no write to it began, else what the latest one left
   pub by_latest : (address : ℕ) → cell_byte (booked (opened b) cs).cells address ≡ told b.image address (latest address (writes b cs))
-  by_latest address = closed_form address ∙ held_is b.image (writes b cs) address
+  by_latest address = closed_form address ∙ holds_told b.image (writes b cs) address
 
   -- all cells in order
   pub cells_are : (booked (opened b) cs).cells ≡ cells_after b cs
-  cells_are = image_is (booked (opened b) cs).cells (held b.image (writes b cs)) nineteen closed_form
+  cells_are = image_is (booked (opened b) cs).cells (cell_holds b.image (writes b cs)) nineteen closed_form
 
   -- the book's running write is the one that runs, with its address, wanted byte and time
   pub running_is : (booked (opened b) cs).running ≡ that_runs (writes b cs)

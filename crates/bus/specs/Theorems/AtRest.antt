@@ -36,7 +36,7 @@ use Rattle.samples.specs.Samples.{sync_local_until}
 use Rattle.writes.specs.Write.{register_effect, write_effect, write_kind}
 use Rattle.serial.specs.SpiEdges as E
 use Rattle.serial.specs.I2cPins.{i2c_listens, ones_for, launched, acted, i2c_pins, pins_synced}
-use Rattle.waits.specs.Supply.{without_report, cut, held, cold_return, zero_while_off, warm_return, returned, supply_low, supply_ok, set_supply}
+use Rattle.waits.specs.Supply.{without_report, cut, hold_analog, cold_return, zero_while_off, warm_return, returned, supply_low, supply_ok, set_supply}
 use Rattle.waits.specs.Due.{completed, waits_ended, pause_ended, write_ended, hold_ends_now, at_deadline}
 use Rattle.bma150.specs.declared.host.Bma150.{Bma150}
 use Rattle.bma150.specs.Called.{Acts, acts, left_by, start_number, started, after_start, effect, leaves}
@@ -213,7 +213,7 @@ cut_alike (Some w) s now = record { selected = refl; serial = refl }
 
 low_rests : (o : Option Outage) (s : Sensor) (zero : Bool) (now : Time) → Rested s.frame → Rested (supply_low o s zero now).sensor.frame
 unfolding supply_low zero_while_off
-low_rests None s zero now h = selected_to_rests (cut s.writing (held s now) now).sensor _ (rested (cut_alike s.writing (held s now) now) h)
+low_rests None s zero now h = selected_to_rests (cut s.writing (hold_analog s now) now).sensor _ (rested (cut_alike s.writing (hold_analog s now) now) h)
 low_rests (Some o) s true now h = h
 low_rests (Some o) s false now h = h
 

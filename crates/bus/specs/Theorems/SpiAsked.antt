@@ -12,7 +12,7 @@ use Rattle.spi.specs.declared.types.Taken.{Taken}
 use Rattle.spi.specs.declared.types.Shift.{Shift}
 use Rattle.spi.specs.declared.types.Shift.TheVariants as H
 use Rattle.spi.specs.Frame as F
-use Rattle.spi.specs.Lines.{Event, Rise, Deed, Now, turnaround_shift, rise_shift, fall_shift, noted, wrote, fetched, bit_deeds, deeds, Seen}
+use Rattle.spi.specs.Lines.{Event, Rise, Deed, Now, turnaround_shift, rise_shift, fall_shift, read_deeds, wrote, fetched, bit_deeds, deeds, Seen}
 use Rattle.spi.specs.Courses.{Pair, Fit, write_frames}
 use Rattle.spi.specs.Answers.{writes_answer}
 use Rattle.calls.specs.declared.types.Timed.{Timed}
@@ -49,8 +49,8 @@ unfolding deed_writes wrote and_write
 wrote_writes None sh ws = fetch_writes sh ws
 wrote_writes (Some (a, v)) sh ws = ap (λ (l : List (Option (ℕ × ℕ))). Some (a, v) ∷ l) (fetch_writes sh ws)
 
-bit_writes : (k : Option ℕ) (w : Option (ℕ × ℕ)) (sh : Shift) (ws : List (Option (ℕ × ℕ))) → deed_writes (noted k ++ (wrote w ++ fetched sh)) ws ≡ and_write w ws
-unfolding deed_writes noted
+bit_writes : (k : Option ℕ) (w : Option (ℕ × ℕ)) (sh : Shift) (ws : List (Option (ℕ × ℕ))) → deed_writes (read_deeds k ++ (wrote w ++ fetched sh)) ws ≡ and_write w ws
+unfolding deed_writes read_deeds
 bit_writes None w sh ws = wrote_writes w sh ws
 bit_writes (Some a) w sh ws = wrote_writes w sh ws
 

@@ -19,10 +19,10 @@ use Rattle.book.specs.Does.{at_rise, spi_write}
 use Rattle.effects.specs.Theorems.Keeps as K
 use Rattle.effects.specs.Theorems.Driver as D
 use Rattle.bus.specs.I2c.{sampled}
-use Rattle.bus.specs.Spi.{Chosen, at_fall, noted, sends, write_resets}
+use Rattle.bus.specs.Spi.{Chosen, at_fall, after_read_began, sends, write_resets}
 use Rattle.bus.specs.Theorems.Parts.{Same, and_then, of}
 use Rattle.bus.specs.Theorems.Fading.{Faded, unfaded, and_faded, clocking}
-use Rattle.bus.specs.Theorems.SpiEdges.{faded_of, listens, falls_heard, around, around_same, moved_frame, moved_rest, first_frame, first_same, noted_turning, noted_clocking}
+use Rattle.bus.specs.Theorems.SpiEdges.{faded_of, listens, falls_heard, around, around_same, moved_frame, moved_rest, first_frame, first_same, read_began_turning, read_began_clocking}
 use Rattle.bus.specs.Theorems.SpiRises.{turn_frame, turn_around, clocks, write_alike, done_around, t, taken, q, b, bit_faded}
 
 -- ---- the sensor that meets an edge
@@ -84,19 +84,19 @@ mode_of s t e = ap (λ (l : List ℕ). SPI4 (at l operation)) e
 -- ---- a rise
 
 module _ (P : Type 0) (m : Sensor) (h : Chosen m) (mosi : Bool) (now : Time) (n : Now)
-    (mode : n.four_wire ≡ four_wire (noted m)) (next : n.four_wire_then ≡ four_wire (E.rising_effect m mosi now)) (shows : (a : ℕ) → n.shows a ≡ sends (noted m) a)
-    (gentle : write_resets (noted m) (spi_write m mosi) ≡ false) (awake : P → (E.rising_effect m mosi now).sampling.asleep ≡ false) where
+    (mode : n.four_wire ≡ four_wire (after_read_began m)) (next : n.four_wire_then ≡ four_wire (E.rising_effect m mosi now)) (shows : (a : ℕ) → n.shows a ≡ sends (after_read_began m) a)
+    (gentle : write_resets (after_read_began m) (spi_write m mosi) ≡ false) (awake : P → (E.rising_effect m mosi now).sampling.asleep ≡ false) where
   abbrev f : Frame
   f = m.frame
 
   turned_faded : f.turnaround ≡ true → Faded P (serve n f (Rise mosi)) (E.rising_effect m mosi now).frame
   turned_faded e =
-      let same = noted_turning m e in
+      let same = read_began_turning m e in
       unfaded (turn_frame m h mosi now n e (mode ∙ ap (λ (x : Sensor). four_wire x) same) (λ a. shows a ∙ ap (λ (x : Sensor). sends x a) same))
 
   module _ (e : f.turnaround ≡ false) where
-    same : noted m ≡ t m mosi now
-    same = noted_clocking m e
+    same : after_read_began m ≡ t m mosi now
+    same = read_began_clocking m e
 
     effect_is : E.rising_effect m mosi now ≡ E.bit_taken m mosi now
     effect_is = clocks m h mosi now n e

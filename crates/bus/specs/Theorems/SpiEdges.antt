@@ -18,7 +18,7 @@ use Rattle.sensor.specs.RegisterReads.{shown, peek, fetched, counts_as_read, byt
 use Rattle.serial.specs.SpiEdges as E
 use Rattle.effects.specs.Theorems.Keeps as K
 use Rattle.effects.specs.Theorems.Driver as D
-use Rattle.bus.specs.Spi.{Chosen, noted, sends}
+use Rattle.bus.specs.Spi.{Chosen, after_read_began, sends}
 use Rattle.bus.specs.Theorems.Parts.{Parts, Same, itself, of, is_never}
 use Rattle.bus.specs.Theorems.Fading.{driving, Faded}
 
@@ -105,7 +105,7 @@ module _ (t : Sensor) where
   unfolding peek shown
   sends_framed f a = sent_framed f (peek t a) a
 
--- ---- a read is noted
+-- ---- a read begins
 
 module _ (m : Sensor) where
   byte_read_frame : (x : Option ℕ) (a : ℕ) (b : Bool) → counts_as_read m a ≡ b → (byte_read x m a).frame ≡ m.frame
@@ -124,10 +124,10 @@ module _ (m : Sensor) where
   first_same None = itself m
   first_same (Some a) = of (K.byte_read_keeps m.frame.tx m a)
 
-  pub noted_turning : m.frame.turnaround ≡ true → noted m ≡ m
-  unfolding noted
-  noted_turning e = rw e
+  pub read_began_turning : m.frame.turnaround ≡ true → after_read_began m ≡ m
+  unfolding after_read_began
+  read_began_turning e = rw e
 
-  pub noted_clocking : m.frame.turnaround ≡ false → noted m ≡ E.first_bit_taken (F.first_bit m.frame.serial m.frame.rx_bits) m
-  unfolding noted
-  noted_clocking e = rw e
+  pub read_began_clocking : m.frame.turnaround ≡ false → after_read_began m ≡ E.first_bit_taken (F.first_bit m.frame.serial m.frame.rx_bits) m
+  unfolding after_read_began
+  read_began_clocking e = rw e

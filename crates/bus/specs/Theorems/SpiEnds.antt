@@ -21,12 +21,12 @@ use Rattle.bma150.specs.Called.{Acts, acts, left_by, effect, leaves}
 use Rattle.book.specs.Does.{at_rise, spi_write}
 use Rattle.book.specs.Lists.{accepts, step}
 use Rattle.effects.specs.Theorems.Keeps as K
-use Rattle.bus.specs.Spi.{Chosen, noted, write_resets, timed_leaves, act_leaves, leaves_frame}
+use Rattle.bus.specs.Spi.{Chosen, after_read_began, write_resets, timed_leaves, act_leaves, leaves_frame}
 use Rattle.bus.specs.Theorems.Between.{supply_off}
 use Rattle.bus.specs.Theorems.Parts.{absurd_bool, and_then, of, is_never}
 use Rattle.bus.specs.Theorems.Reports.{reset_quiets}
 use Rattle.bus.specs.Theorems.Calls.{accepted_leaves}
-use Rattle.bus.specs.Theorems.SpiEdges.{chosen, Around, moved_rest, noted_clocking, first_frame}
+use Rattle.bus.specs.Theorems.SpiEdges.{chosen, Around, moved_rest, read_began_clocking, first_frame}
 use Rattle.bus.specs.Theorems.SpiRises.{clocks, write_alike, t, taken, q, b}
 use Rattle.bus.specs.Theorems.SpiCalls.{rise_write, turn_write, resets_framed}
 
@@ -50,12 +50,12 @@ nothing_resets : (s : Sensor) (w : Option (ℕ × ℕ)) → w ≡ None → write
 unfolding write_resets
 nothing_resets s w e = ap (λ (x : Option (ℕ × ℕ)). write_resets s x) e
 
-module _ (m : Sensor) (h : Chosen m) (mosi : Bool) (now : Time) (e : write_resets (noted m) (spi_write m mosi) ≡ true) where
+module _ (m : Sensor) (h : Chosen m) (mosi : Bool) (now : Time) (e : write_resets (after_read_began m) (spi_write m mosi) ≡ true) where
   clocking : m.frame.turnaround ≡ false
   clocking = by m.frame.turnaround refl
     where
       by : (z : Bool) → m.frame.turnaround ≡ z → m.frame.turnaround ≡ false
-      by true g = absurd_bool (sym e ∙ nothing_resets (noted m) (spi_write m mosi) (turn_write m h mosi g))
+      by true g = absurd_bool (sym e ∙ nothing_resets (after_read_began m) (spi_write m mosi) (turn_write m h mosi g))
       by false g = g
 
   write_is : (taken m mosi now).write ≡ spi_write m mosi
@@ -68,7 +68,7 @@ module _ (m : Sensor) (h : Chosen m) (mosi : Bool) (now : Time) (e : write_reset
   resets =
       resets_framed (t m mosi now) (taken m mosi now).frame (taken m mosi now).write
       ∙ ap (λ (w : Option (ℕ × ℕ)). write_resets (t m mosi now) w) write_is
-      ∙ ap (λ (x : Sensor). write_resets x (spi_write m mosi)) (sym (noted_clocking m clocking))
+      ∙ ap (λ (x : Sensor). write_resets x (spi_write m mosi)) (sym (read_began_clocking m clocking))
       ∙ e
 
   rise_quiets : is_quiet (E.rising_effect m mosi now) ≡ true

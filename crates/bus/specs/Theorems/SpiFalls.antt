@@ -15,7 +15,7 @@ use Rattle.spi.specs.declared.types.Taken.{Taken}
 use Rattle.spi.specs.declared.types.Clocked.{Clocked}
 use Rattle.spi.specs.declared.types.Shift.TheVariants as H
 use Rattle.spi.specs.Frame as F
-use Rattle.spi.specs.Lines.{Event, Rise, Fall, Deed, Wrote, Fetched, Noted, Now, output, bit_served, serve, noted, wrote, fetched, bit_deeds, deeds, Seen, now, left, seen}
+use Rattle.spi.specs.Lines.{Event, Rise, Fall, Deed, Wrote, Fetched, ReadBegan, Now, output, bit_served, serve, read_deeds, wrote, fetched, bit_deeds, deeds, Seen, now, left, seen}
 use Rattle.spi.proofs.Theorems.Frames.{left_append, seen_append, receiving}
 use Rattle.bus.specs.Writes.{deed_writes, edge_writes}
 use Rattle.bus.specs.Theorems.Parts.{absurd_bool}
@@ -43,7 +43,7 @@ unfolding deed_writes
 deeds_append [] ws vs = refl
 deeds_append (Wrote a v ∷ ds) ws vs = ap (λ (l : List (Option (ℕ × ℕ))). Some (a, v) ∷ l) (deeds_append ds ws vs)
 deeds_append (Fetched a ∷ ds) ws vs = deeds_append ds ws vs
-deeds_append (Noted a ∷ ds) ws vs = deeds_append ds ws vs
+deeds_append (ReadBegan a ∷ ds) ws vs = deeds_append ds ws vs
 
 writes_append : (l m : List Seen) → edge_writes (l ++ m) ≡ edge_writes l ++ edge_writes m
 unfolding edge_writes
@@ -98,13 +98,13 @@ unnoted (S.Read a) b r = absurd_bool r
 -- a rise whose bit leaves a byte being received, and no write
 rise_passes : (s : Serial) (r : F.reads s ≡ false) (b x : ℕ) (d : Bool) (ns : List Now) (to : Serial) (q : F.reads to ≡ false) (c y : ℕ)
     → F.take_bit (receiving s b x) d (now ns).four_wire ≡ record { frame = receiving to c y; write = None } → Passes (receiving s b x) (Rise d ∷ []) ns (receiving to c y)
-unfolding serve deeds noted wrote
+unfolding serve deeds read_deeds wrote
 rise_passes s r b x d ns to q c y e =
     let n = now ns in
     let still = stays n.shows Clocked.Rise n.four_wire_then to c y q in
     one_passes (Rise d) ns (ap (λ (t : Taken). bit_served n t) e ∙ still.0)
     (ap (λ (t : Taken). bit_deeds n (F.first_bit s b) t) e
-    ∙ ap (λ (k : Option ℕ). noted k ++ fetched (F.shifts (receiving to c y) Clocked.Rise n.four_wire_then)) (unnoted s b r)
+    ∙ ap (λ (k : Option ℕ). read_deeds k ++ fetched (F.shifts (receiving to c y) Clocked.Rise n.four_wire_then)) (unnoted s b r)
     ∙ still.1) refl
 
 fall_passes : (s : Serial) (r : F.reads s ≡ false) (b x : ℕ) (ns : List Now) → Passes (receiving s b x) (Fall ∷ []) ns (receiving s b x)

@@ -140,7 +140,7 @@ module _ (q : Sensor) (now : Time) where
   done_around (Some (r, v)) n = around_same (written_same q r v now (write_kind q r v) n)
 
 module _ (m : Sensor) (mosi : Bool) (now : Time) where
-  -- after the note, the bit taken, the sensor with its frame, and after the write
+  -- after the read began, the bit taken, the sensor with its frame, and after the write
   abbrev pub t : Sensor
   t = E.first_bit_taken (F.first_bit m.frame.serial m.frame.rx_bits) m
 

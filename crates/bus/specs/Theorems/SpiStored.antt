@@ -60,14 +60,14 @@ rise_done m mosi at =
     let t = E.first_bit_taken (F.first_bit m.frame.serial m.frame.rx_bits) m in
     E.bit_done (F.take_bit t.frame mosi (four_wire t)) t at
 
--- within the value byte of a write nothing is noted, and the eighth bit writes
+-- within the value byte of a write no read begins, and the eighth bit writes
 written_at : (m : Sensor) (mosi : Bool) (at : Time) (a x y : ℕ) → m.frame ≡ receiving (S.Write a) 7 y
     → ((w : Bool) → F.take_bit (receiving (S.Write a) 7 y) mosi w ≡ record { frame = F.fresh true; write = Some (a, x) })
     → rise_done m mosi at ≡ write_register (with_frame m (F.fresh true)) a x at
 unfolding E.first_bit_taken F.first_bit E.write_done
 written_at m mosi at a x y f w =
-    let noted : E.first_bit_taken (F.first_bit m.frame.serial m.frame.rx_bits) m ≡ m = ap (λ (g : Frame). E.first_bit_taken (F.first_bit g.serial g.rx_bits) m) f in
-    ap (λ (t : Sensor). E.bit_done (F.take_bit t.frame mosi (four_wire t)) t at) noted
+    let same : E.first_bit_taken (F.first_bit m.frame.serial m.frame.rx_bits) m ≡ m = ap (λ (g : Frame). E.first_bit_taken (F.first_bit g.serial g.rx_bits) m) f in
+    ap (λ (t : Sensor). E.bit_done (F.take_bit t.frame mosi (four_wire t)) t at) same
     ∙ ap (λ (g : Frame). E.bit_done (F.take_bit g mosi (four_wire m)) m at) f
     ∙ ap (λ (k : Taken). E.bit_done k m at) (w (four_wire m))
 

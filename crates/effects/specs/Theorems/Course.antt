@@ -73,8 +73,8 @@ puts_at {s} {t} a v far r n m f = record {
 abbrev Alike : Sampling → Sampling → Type 0
 Alike g h = (h.means ≡ g.means) × (h.filter ≡ g.filter)
 
-held_keeps : (g : Sampling) (now : Time) (input : Input) → Alike g (Stage.held g now input)
-unfolding Stage.held
+held_keeps : (g : Sampling) (now : Time) (input : Input) → Alike g (Stage.hold g now input)
+unfolding Stage.hold
 held_keeps g now input = cond_both g.asleep _ _ (Alike g) (λ e. (refl, refl)) (λ e. (refl, refl))
 
 turned_keeps : (g : Sampling) (now : Time) (old new : Acceleration) → Alike g (Stage.turned g now old new)

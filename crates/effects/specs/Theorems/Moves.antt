@@ -24,7 +24,7 @@ use Rattle.sensor.specs.Select.{selected_to, may_select}
 use Rattle.sensor.specs.Mode.{start_acquisition, pause, soft_reset}
 use Rattle.waits.specs.declared.types.Served.{Served}
 use Rattle.effects.specs.Theorems.Phases.{phase_measures, phase_warms, phase_tests}
-use Rattle.waits.specs.Supply.{without_report, held, cut, power_off, zero_while_off, reacquired, returned, supply_low, supply_ok, set_supply, turned, set_input}
+use Rattle.waits.specs.Supply.{without_report, hold_analog, cut, power_off, zero_while_off, reacquired, returned, supply_low, supply_ok, set_supply, turned, set_input}
 
 -- the stage of a sensor, and of what a phase changes
 abbrev pub stage : Sensor → Analog
@@ -105,12 +105,12 @@ module _ (s : Sensor) (input : Acceleration) (now : Time) where
 
 -- ---- pauses and supply
 
-held_awake : (s : Sensor) (now : Time) → s.sampling.asleep ≡ false → (Stage.held s.sampling now s.kept.input).analog ≡ caught_up s now
-unfolding Stage.held A.held
+held_awake : (s : Sensor) (now : Time) → s.sampling.asleep ≡ false → (Stage.hold s.sampling now s.kept.input).analog ≡ caught_up s now
+unfolding Stage.hold A.hold
 held_awake s now e = rw e
 
-held_asleep : (s : Sensor) (now : Time) → s.sampling.asleep ≡ true → (Stage.held s.sampling now s.kept.input).analog ≡ stage s
-unfolding Stage.held
+held_asleep : (s : Sensor) (now : Time) → s.sampling.asleep ≡ true → (Stage.hold s.sampling now s.kept.input).analog ≡ stage s
+unfolding Stage.hold
 held_asleep s now e = rw e
 
 -- neither the cut of a write nor deselecting moves it
@@ -123,10 +123,10 @@ deselected : (s : Sensor) (b : Bool) → stage (selected_to s b) ≡ stage s
 unfolding selected_to
 deselected s b = cond_both (F.changes s.frame b) _ _ (λ (t : Sensor). stage t ≡ stage s) (λ e. refl) (λ e. refl)
 
-lost_stage : (s : Sensor) (now : Time) (cold : Bool) → stage (power_off s now cold).sensor ≡ stage (held s now)
+lost_stage : (s : Sensor) (now : Time) (cold : Bool) → stage (power_off s now cold).sensor ≡ stage (hold_analog s now)
 lost_stage s now cold =
-    let t = (cut s.writing (held s now) now).sensor in
-    deselected t (may_select t false) ∙ cut_stays s.writing (held s now) now
+    let t = (cut s.writing (hold_analog s now) now).sensor in
+    deselected t (may_select t false) ∙ cut_stays s.writing (hold_analog s now) now
 
 -- an outage, or none, as the supply is away or not
 some_away : (P : Option Outage → Type 0) (o : Option Outage) → away o ≡ true → ((x : Outage) → P (Some x)) → P o
@@ -149,7 +149,7 @@ module _ (s : Sensor) (rail : ℕ) (now : Time) where
   unfolding set_supply
   high p = rw (le-ltb rail 2400 p)
 
-  lost_on : is_off s ≡ false → stage (supply_low s.outage s (eqb rail 0) now).sensor ≡ stage (held s now)
+  lost_on : is_off s ≡ false → stage (supply_low s.outage s (eqb rail 0) now).sensor ≡ stage (hold_analog s now)
   unfolding supply_low
   lost_on on = ap (λ (o : Option Outage). stage (supply_low o s (eqb rail 0) now).sensor) (none_away s.outage on) ∙ lost_stage s now (eqb rail 0)
 

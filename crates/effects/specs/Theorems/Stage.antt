@@ -61,8 +61,8 @@ module _ (now : Time) where
   pub resumed_upto : (g : Analog) → Upto now (A.all_resumed g now)
   resumed_upto g = record { x = le_refl (ticks now); y = le_refl (ticks now); z = le_refl (ticks now) }
 
-  all_held_upto : (g : Analog) (input : Acceleration) → Upto now (A.held g now input)
-  unfolding A.held
+  all_held_upto : (g : Analog) (input : Acceleration) → Upto now (A.hold g now input)
+  unfolding A.hold
   all_held_upto g input =
       let l = le_refl (ticks now) in
       record { x = advanced_by g.x now input.x l; y = advanced_by g.y now input.y l; z = advanced_by g.z now input.z l }
@@ -80,8 +80,8 @@ module _ (now : Time) where
 
   -- ---- a sampling that is held or whose input is turned
 
-  pub held_upto : (g : Sampling) (input : Input) → Upto now g.analog → Upto now (Stage.held g now input).analog
-  unfolding Stage.held
+  pub held_upto : (g : Sampling) (input : Input) → Upto now g.analog → Upto now (Stage.hold g now input).analog
+  unfolding Stage.hold
   held_upto g input h = cond_both g.asleep _ _ (λ (k : Sampling). Upto now k.analog) (λ e. h) (λ e. all_held_upto g.analog input.acceleration)
 
   pub turned_upto : (g : Sampling) (old new : Acceleration) → Upto now g.analog → Upto now (Stage.turned g now old new).analog

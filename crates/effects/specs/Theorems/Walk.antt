@@ -239,7 +239,7 @@ module _ (now : Time) (R : Sensor → Sensor → Type 0) (p : Steps now R) where
   off_meets s cold = p.then (select_meets s false) (p.then (p.aborts _) (p.goes_off _ cold))
 
   power_off_meets : (s : Sensor) (cold : Bool) → R s (S.power_off s now cold).sensor
-  power_off_meets s cold = p.then (p.stops s) (p.then (cut_meets s.writing (S.held s now) refl) (off_meets _ cold))
+  power_off_meets s cold = p.then (p.stops s) (p.then (cut_meets s.writing (S.hold_analog s now) refl) (off_meets _ cold))
 
   zero_meets : (s : Sensor) (o : Outage) (zero : Bool) → s.outage ≡ Some o → R s (S.zero_while_off s o zero)
   unfolding S.zero_while_off

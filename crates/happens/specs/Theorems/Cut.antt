@@ -50,11 +50,11 @@ off_dark : (s : Sensor) (now : Time) → Dark s.nonvolatile (off s now true)
 unfolding away cold_of
 off_dark s now = record { off = refl; cold = refl; cells = deselected s }
 
-zero_cuts : (s : Sensor) (now : Time) → is_off s ≡ false → (set_supply s 0 now).sensor ≡ off (cut s.writing (Supply.held s now) now).sensor now true
+zero_cuts : (s : Sensor) (now : Time) → is_off s ≡ false → (set_supply s 0 now).sensor ≡ off (cut s.writing (Supply.hold_analog s now) now).sensor now true
 unfolding set_supply supply_low away
 zero_cuts s now = by s.outage
   where
-    by : (o : Option Outage) → away o ≡ false → (supply_low o s true now).sensor ≡ off (cut s.writing (Supply.held s now) now).sensor now true
+    by : (o : Option Outage) → away o ≡ false → (supply_low o s true now).sensor ≡ off (cut s.writing (Supply.hold_analog s now) now).sensor now true
     by None e = refl
     by (Some o) e = cc
 
@@ -70,7 +70,7 @@ torn_cells t now image a x = with_cell image a (byte (cell_byte image a) x (cell
 module _ (t now : Time) {image : List ℕ} {selected : Bool} {a x : ℕ} {s : Sensor} (high : t.0 < 2 ^ 32) (low : t.1 < 2 ^ 64) (late : T.late now ≡ false)
     (since : ticks t ≤ ticks now) (within : ticks now < ticks t + write_length)
     (h : Asleep image selected s) (running : s.writing ≡ Some (stored_write t a x)) where
-  cells_torn : (cut s.writing (Supply.held s now) now).sensor.nonvolatile ≡ torn_cells t now image a x
+  cells_torn : (cut s.writing (Supply.hold_analog s now) now).sensor.nonvolatile ≡ torn_cells t now image a x
   unfolding cut
   cells_torn = rw (running, h.cells)
 
@@ -79,11 +79,11 @@ module _ (t now : Time) {image : List ℕ} {selected : Bool} {a x : ℕ} {s : Se
 
   -- the sensor that 0 mV leaves
   abbrev pub dark : Sensor
-  dark = off (cut s.writing (Supply.held s now) now).sensor now true
+  dark = off (cut s.writing (Supply.hold_analog s now) now).sensor now true
 
   -- its cell is torn
   pub is_dark : Dark (torn_cells t now image a x) dark
-  is_dark = dark_as cells_torn (off_dark (cut s.writing (Supply.held s now) now).sensor now)
+  is_dark = dark_as cells_torn (off_dark (cut s.writing (Supply.hold_analog s now) now).sensor now)
 
   -- the supply call of 0 mV is accepted
   pub cut_goes : Goes (host t s) (Call.At now (Timed.Supply 0) ∷ []) (host now dark)

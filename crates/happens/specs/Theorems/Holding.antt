@@ -38,7 +38,7 @@ pub record Held (now : Time) (s : Sensor) : Type 0 where
   pub unsampled : samples_run s ≡ false
   pub undue : is_by (interaction_deadline s) now ≡ false
 
--- a sensor with another frame, engine and note of what is read
+-- a sensor with another frame, engine and held pairs
 abbrev pub with_pins : Sensor → Frame → State → Reads → Sensor
 with_pins s f i r = with_reads (with_i2c (with_frame s f) i) r
 

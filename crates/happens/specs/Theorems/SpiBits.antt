@@ -48,7 +48,7 @@ module _ (s : Sensor) (n y : ℕ) where
   unfolding F.shifts
   output_still k at w = moved_nowhere k (F.moves at w false)
 
--- the first bit of such a byte notes nothing
+-- at the first bit of such a byte no read begins
 nothing_noted : {p : Serial} → Taking p → (n : ℕ) (s : Sensor) → E.first_bit_taken (F.first_bit p n) s ≡ s
 unfolding E.first_bit_taken F.first_bit
 nothing_noted address n s = refl

@@ -96,6 +96,6 @@ module _ (p b x : ℕ) (l : Bool) (sent : ℕ) where
   in_any (P.MasterAcknowledge a) (Rise d) = refl
   in_any (P.MasterAcknowledge a) Fall = answers a
 
--- a sample of the same moment comes first exactly where the event writes a register, fetches a byte or notes a read
+-- a sample of the same moment comes first exactly where the event writes a register, fetches a byte or begins a read
 pub uses_exactly : (s : State) (e : Edge) (sent : ℕ) → consumes_conversion s e ≡ uses (step s e false sent).action
 uses_exactly s e sent = in_any s.pointer s.bits s.shift s.low sent s.phase e

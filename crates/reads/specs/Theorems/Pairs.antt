@@ -9,7 +9,7 @@ use Rattle.std.proofs.lemmas.Bool.{and_parts}
 use Rattle.registers.specs.Map.{acc_lsb, acc_msb, new_data}
 use Rattle.reads.specs.declared.Reads.{Reads}
 use Rattle.reads.specs.declared.Prepared.{Prepared}
-use Rattle.reads.specs.Reads.{is_acceleration, is_shadowed, axis_of, is_low, without_new_data, shadow, is_held, held_high, pair, high_byte, dropped, prepared_low, prepared_high, prepared, holding, taken, began, read_began}
+use Rattle.reads.specs.Reads.{is_acceleration, is_shadowed, axis_of, is_low, without_new_data, shadow, is_held, held_high, pair, high_byte, dropped, prepared_low, prepared_high, prepared, holding, sent_byte_read, began, read_began}
 
 -- ---- addresses
 
@@ -94,7 +94,7 @@ module _ (s : Reads) (axis viewed low high : ℕ) (p : axis < 3) where
 
   -- the low byte taken: its pair is held
   low_taken : (sent : ℕ) → read_began (prepared_low (dropped s) axis low high).reads (acc_lsb axis) sent ≡ after_low s axis low high
-  unfolding pair began taken is_shadowed
+  unfolding pair began sent_byte_read is_shadowed
   low_taken sent = rw (low_is axis p, low_axis axis p)
 
   -- the pair that is sent from does not depend on what was being sent before

@@ -7,7 +7,7 @@ use borrow.Author.Tests.{leb-true, eqb-true, eqb-false}
 use Rattle.std.proofs.lemmas.Bool.{and_parts}
 use Rattle.registers.specs.Map.{acc_lsb, acc_msb}
 use Rattle.reads.specs.declared.Reads.{Reads}
-use Rattle.reads.specs.Reads.{is_acceleration, is_shadowed, axis_of, is_low, without_new_data, shadow, is_held, held_high, pair, high_byte, dropped, prepared_high, prepared, finished, taken, began}
+use Rattle.reads.specs.Reads.{is_acceleration, is_shadowed, axis_of, is_low, without_new_data, shadow, is_held, held_high, pair, high_byte, dropped, prepared_high, prepared, finished, sent_byte_read, began}
 use Rattle.reads.specs.Theorems.Pairs.{Sized, after_low, after_read, held_then, high_then, sized_then, high_held, low_read}
 
 -- the pair of an axis is still held, with the same high byte
@@ -30,12 +30,12 @@ module _ (s : Reads) (address viewed low high : ℕ) where
   module _ (e : is_shadowed address true ≡ true) where
     low_byte_read : is_low address ≡ true
         → after_read s address viewed low high true ≡ after_low s (axis_of address) low high
-    unfolding pair prepared began taken is_shadowed
+    unfolding pair prepared began sent_byte_read is_shadowed
     low_byte_read l = simp (e, l)
 
     high_byte_read : is_low address ≡ false
         → after_read s address viewed low high true ≡ finished (prepared_high (dropped s) (high_byte s (axis_of address))).reads (axis_of address) (high_byte s (axis_of address))
-    unfolding prepared began taken is_shadowed
+    unfolding prepared began sent_byte_read is_shadowed
     high_byte_read l = simp (e, l)
 
 -- ---- the pair stays held

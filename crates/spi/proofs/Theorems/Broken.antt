@@ -12,7 +12,7 @@ use Rattle.spi.specs.declared.types.Taken.{Taken}
 use Rattle.spi.specs.declared.types.Shift.{Shift}
 use Rattle.spi.specs.declared.types.Shift.TheVariants as H
 use Rattle.spi.specs.Frame.{fresh, select, reads, first_bit, addressed, completed, take_bit, turned, moved}
-use Rattle.spi.specs.Lines.{Event, Rise, Fall, Deed, Wrote, Fetched, Noted, Now, output, turnaround_shift, rise_shift, fall_shift, bit_served, serve, noted, wrote, fetched, bit_deeds, deeds, Seen, now, left, seen}
+use Rattle.spi.specs.Lines.{Event, Rise, Fall, Deed, Wrote, Fetched, ReadBegan, Now, output, turnaround_shift, rise_shift, fall_shift, bit_served, serve, read_deeds, wrote, fetched, bit_deeds, deeds, Seen, now, left, seen}
 use Rattle.spi.proofs.Theorems.Frames.{select_drops}
 
 -- ---- the writes of a course
@@ -22,7 +22,7 @@ unfoldable pub writes : List Deed → List Deed
 writes [] = []
 writes (Wrote a x ∷ ds) = Wrote a x ∷ writes ds
 writes (Fetched a ∷ ds) = writes ds
-writes (Noted a ∷ ds) = writes ds
+writes (ReadBegan a ∷ ds) = writes ds
 
 -- the writes of all that is seen, in order
 unfoldable pub written : List Seen → List Deed
@@ -52,8 +52,8 @@ fetching_writes_nothing H.Stay = refl
 fetching_writes_nothing (H.Fetch a) = refl
 fetching_writes_nothing H.Next = refl
 
-noting_first : (k : Option ℕ) (ds : List Deed) → writes (noted k ++ ds) ≡ writes ds
-unfolding writes noted
+noting_first : (k : Option ℕ) (ds : List Deed) → writes (read_deeds k ++ ds) ≡ writes ds
+unfolding writes read_deeds
 noting_first None ds = refl
 noting_first (Some a) ds = refl
 

@@ -18,7 +18,7 @@ use Rattle.spi.specs.declared.types.Frame.{Frame}
 use Rattle.spi.specs.declared.types.Taken.{Taken}
 use Rattle.spi.specs.declared.types.Shift.TheVariants as H
 use Rattle.spi.specs.Frame.{fresh, differs, select, reads, first_bit, addressed, completed, take_bit, moves, fetches, shifts, moved, consumes_at_rise, consumes_at_fall}
-use Rattle.spi.specs.Lines.{Event, Rise, Fall, Deed, Wrote, Now, output, bit_served, serve, noted, wrote, fetched, bit_deeds, deeds, samples, Seen, seen_at, now, left, seen}
+use Rattle.spi.specs.Lines.{Event, Rise, Fall, Deed, Wrote, Now, output, bit_served, serve, read_deeds, wrote, fetched, bit_deeds, deeds, samples, Seen, seen_at, now, left, seen}
 use Rattle.spi.specs.Courses.{clocked, eight_rises, write_frame, Pair, Fit, write_frames}
 use Rattle.spi.specs.Answers.{floats, taken_answer, address_answer, write_answer, writes_answer}
 
@@ -152,13 +152,13 @@ module _ (s : Serial) (r : reads s ≡ false) (b x : ℕ) (d : Bool) (to : Seria
   rise_received : (ns : List Now) (w : Option (ℕ × ℕ)) (sampled : Bool) → take_bit (receiving s b x) d (now ns).four_wire ≡ record { frame = receiving to c y; write = w }
       → consumes_at_rise (receiving s b x) ≡ sampled
       → Serves (receiving s b x) (Rise d ∷ []) ns (record { driven = D.Floating; sampled = sampled; deeds = wrote w ++ [] } ∷ []) (receiving to c y)
-  unfolding serve deeds samples noted
+  unfolding serve deeds samples read_deeds
   rise_received ns w sampled e g =
       let n = now ns in
       let stays = still n.shows C.Rise n.four_wire_then to c y q in
       one_event (ap (λ (t : Taken). bit_served n t) e ∙ stays.0) g
       (ap (λ (t : Taken). bit_deeds n (first_bit s b) t) e
-      ∙ ap (λ (k : Option ℕ). noted k ++ (wrote w ++ fetched (shifts (receiving to c y) C.Rise n.four_wire_then))) (no_note s b r)
+      ∙ ap (λ (k : Option ℕ). read_deeds k ++ (wrote w ++ fetched (shifts (receiving to c y) C.Rise n.four_wire_then))) (no_note s b r)
       ∙ ap (λ (l : List Deed). wrote w ++ l) stays.1)
 
 module _ (s : Serial) (r : reads s ≡ false) where

@@ -12,7 +12,7 @@ use Rattle.spi.specs.declared.types.Taken.{Taken}
 use Rattle.spi.specs.declared.types.Shift.{Shift}
 use Rattle.spi.specs.declared.types.Shift.TheVariants as H
 use Rattle.spi.specs.Frame.{fresh, reads, first_bit, addressed, completed, take_bit, moves, fetches, shifts, bit_drive, level, next_bit, moved, consumes_at_rise, consumes_at_fall}
-use Rattle.spi.specs.Lines.{Event, Rise, Fall, Fetched, Noted, Now, output, bit_served, serve, noted, wrote, fetched, bit_deeds, deeds, samples, Seen, seen_at, now, shown, left, seen}
+use Rattle.spi.specs.Lines.{Event, Rise, Fall, Fetched, ReadBegan, Now, output, bit_served, serve, read_deeds, wrote, fetched, bit_deeds, deeds, samples, Seen, seen_at, now, shown, left, seen}
 use Rattle.spi.specs.Courses.{clocked, eight_rises, Levels8, read_rises, read_byte, read_bytes, four_wire_read, turnaround_clock, three_wire_read, output_mode, Keeps}
 use Rattle.spi.specs.Answers.{floats, floats_and, address_answer, drive_for, shows_bit, shows_bit_and, next_register, register_after, four_wire_rises, four_wire_byte, four_wire_bytes, drive_after, four_wire_answer, turnaround_answer, three_wire_bits, three_wire_byte, next_byte_shown, three_wire_bytes, sent_after, three_wire_answer, to_read, first_shown}
 use Rattle.spi.proofs.Theorems.Frames.{drop_more, Serves, and_serves, one_event, receiving, each_floats, seven_received}
@@ -30,7 +30,7 @@ read_addressed a four_wire h =
 module _ (a : ℕ) (h : a < 128) (ns : List Now) where
   last_rise : (four_wire : Bool) → (now ns).four_wire ≡ four_wire → shifts (to_read a D.Floating (not four_wire)) C.Rise (now ns).four_wire_then ≡ H.Stay
       → Serves (receiving S.Address 7 (all_shifted_in 0 (seven_bits (128 + a)))) (Rise (sent_bit (128 + a) 7) ∷ []) ns (floats_and [] ∷ []) (to_read a D.Floating (not four_wire))
-  unfolding serve deeds samples first_bit consumes_at_rise noted wrote fetched output
+  unfolding serve deeds samples first_bit consumes_at_rise read_deeds wrote fetched output
   last_rise four_wire e stays =
       let n = now ns in
       let t = ap (λ (w : Bool). take_bit (receiving S.Address 7 (all_shifted_in 0 (seven_bits (128 + a)))) (sent_bit (128 + a) 7) w) e ∙ read_addressed a four_wire h in
@@ -116,7 +116,7 @@ all_shown a t = record { serial = S.Read a; selected = true; rx = 0; rx_bits = 0
 
 rises_in_mode : (a : ℕ) (t : Option ℕ) (o : Levels8) (ns : List Now)
     → Serves (first_shown a t) (read_rises o) (all_in_mode true (read_rises o) ns) (four_wire_rises a t) (to_read (next_register a) (drive_for t 0) false)
-unfolding seen left serve deeds samples output noted wrote fetched reads first_bit take_bit completed shifts moves fetches moved level bit_drive next_bit drive_for consumes_at_rise consumes_at_fall
+unfolding seen left serve deeds samples output read_deeds wrote fetched reads first_bit take_bit completed shifts moves fetches moved level bit_drive next_bit drive_for consumes_at_rise consumes_at_fall
 rises_in_mode a None o ns = record { is_seen = refl; is_left = refl }
 rises_in_mode a (Some b) o ns = record { is_seen = refl; is_left = refl }
 
@@ -198,15 +198,15 @@ module _ (a : ℕ) (o : Levels8) where
 
   four_in_mode : (t : Option ℕ) (ns : List Now)
       → Serves (first_shown a t) four_clocks (all_in_mode false four_clocks ns)
-      (shows_bit t 7 ∷ shows_bit_and t 6 (Noted a ∷ []) ∷ shows_bit t 6 ∷ shows_bit t 5 ∷ shows_bit t 5 ∷ shows_bit t 4 ∷ shows_bit t 4 ∷ shows_bit t 3 ∷ []) (fifth_shown a t four_levels)
-  unfolding seen left serve deeds samples output noted wrote fetched reads first_bit take_bit completed shifts moves fetches moved level bit_drive next_bit drive_for consumes_at_rise consumes_at_fall all_shifted_in
+      (shows_bit t 7 ∷ shows_bit_and t 6 (ReadBegan a ∷ []) ∷ shows_bit t 6 ∷ shows_bit t 5 ∷ shows_bit t 5 ∷ shows_bit t 4 ∷ shows_bit t 4 ∷ shows_bit t 3 ∷ []) (fifth_shown a t four_levels)
+  unfolding seen left serve deeds samples output read_deeds wrote fetched reads first_bit take_bit completed shifts moves fetches moved level bit_drive next_bit drive_for consumes_at_rise consumes_at_fall all_shifted_in
   four_in_mode None ns = record { is_seen = refl; is_left = refl }
   four_in_mode (Some b) ns = record { is_seen = refl; is_left = refl }
 
   three_in_mode : (t : Option ℕ) (x : ℕ) (ns : List Now)
       → Serves (fifth_shown a t x) three_clocks (all_in_mode false three_clocks ns)
       (shows_bit t 3 ∷ shows_bit t 2 ∷ shows_bit t 2 ∷ shows_bit t 1 ∷ shows_bit t 1 ∷ shows_bit t 0 ∷ shows_bit t 0 ∷ []) (last_shown a t (all_shifted_in x (o.4 ∷ o.5 ∷ o.6 ∷ [])))
-  unfolding seen left serve deeds samples output noted wrote fetched reads first_bit take_bit completed shifts moves fetches moved level bit_drive next_bit drive_for consumes_at_rise consumes_at_fall all_shifted_in
+  unfolding seen left serve deeds samples output read_deeds wrote fetched reads first_bit take_bit completed shifts moves fetches moved level bit_drive next_bit drive_for consumes_at_rise consumes_at_fall all_shifted_in
   three_in_mode None x ns = record { is_seen = refl; is_left = refl }
   three_in_mode (Some b) x ns = record { is_seen = refl; is_left = refl }
 
@@ -219,7 +219,7 @@ module _ (a : ℕ) (o : Levels8) where
 eighth_rise_fetches : (a : ℕ) (t : Option ℕ) (x : ℕ) (l : Bool) (ns : List Now) → (now ns).four_wire_then ≡ false
     → let u = shown ns (next_register a) in
     Serves (last_shown a t x) (Rise l ∷ []) ns (shows_bit_and u 7 (Fetched (next_register a) ∷ []) ∷ []) (first_shown (next_register a) u)
-unfolding serve deeds samples output noted wrote fetched reads first_bit take_bit completed shifts moves fetches moved next_bit consumes_at_rise
+unfolding serve deeds samples output read_deeds wrote fetched reads first_bit take_bit completed shifts moves fetches moved next_bit consumes_at_rise
 eighth_rise_fetches a t x l ns keeps =
     let n = now ns in
     let u = shown ns (next_register a) in
