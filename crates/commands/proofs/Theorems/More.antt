@@ -1,7 +1,7 @@
 -- What follows a command does not alter it, and no command is longer than what is there.
-use Rattle.std.specs.Prelude.{◌≡◌, refl, Bool, true, false, List, [], ◌∷◌, ◌++◌, ℕ, ◌+◌, ◌≤◌, ◌<◌, eqb, take, drop, Result, Ok, Err}
+use Rattle.std.specs.Prelude.{◌≡◌, refl, Bool, true, false, List, [], ◌∷◌, ◌++◌, ℕ, ◌+◌, ◌≤◌, ◌<◌, take, drop, Result, Ok, Err}
 use Rattle.std.proofs.Common.{ap, ◌∙◌, arith, length-drop}
-use borrow.Author.Tests.{lt-ltb, le-ltb, ne_eqb}
+use borrow.Author.Tests.{lt-ltb, le-ltb}
 use Rattle.std.proofs.Math.ListN.{length, length-append, get_or-append}
 use Rattle.std.proofs.lemmas.List.{drop-append-le, take-append-le}
 use Rattle.std.proofs.lemmas.Bool.{true≢false}
@@ -134,21 +134,4 @@ image_there (b ∷ m) by t e =
 
 pub unknown : (b : ℕ) (m : List ℕ) → 12 < b → decoded (b ∷ m) ≡ Command.Bad
 unfolding decoded opcode
-unknown b m h =
-    let other : (k : ℕ) → k ≤ 12 → eqb b k ≡ false = λ k g. ne_eqb b k (λ (e : b ≡ k). omega arith) in
-    let some : 0 < length (b ∷ m) = omega arith in
-    rw (
-      lt-ltb 0 (length (b ∷ m)) some,
-      other 1 (omega arith),
-      other 2 (omega arith),
-      other 3 (omega arith),
-      other 4 (omega arith),
-      other 5 (omega arith),
-      other 6 (omega arith),
-      other 7 (omega arith),
-      other 8 (omega arith),
-      other 9 (omega arith),
-      other 10 (omega arith),
-      other 11 (omega arith),
-      other 12 (omega arith),
-    )
+unknown b m h = grind arith
