@@ -61,7 +61,7 @@ levels b scl sda = record { scl = bit b scl; sda = bit b sda }
 abbrev pub start : Starting → List ℕ → Command
 start by l = Command.Start by (moment_at 1 l)
 
--- the 19 bytes of a start, after T
+-- the 19 bytes of a start
 abbrev pub image : List ℕ → List ℕ
 image l = part 13 19 l
 
@@ -77,9 +77,9 @@ either_of b low high = if eqb b 0 then low else if eqb b 1 then high else Comman
 abbrev pub lines : List ℕ → ℕ → Command
 lines l b = if ltb 15 b then Command.Bad else timed l (Timed.Pins (levels b 8 4) (levels b 2 1))
 
--- ---- the commands: a byte, how many bytes in all, and the operands
+-- ---- 01's commands: which byte begins each, how many bytes it has, and its operands
 
--- the byte; an unknown one begins no command
+-- the command that a byte begins; an unknown one begins none
 unfoldable pub opcode : ℕ → Result Opcode UnknownByte
 opcode c =
     if eqb c 0x01 then Ok Opcode.Start
@@ -96,7 +96,7 @@ opcode c =
     else if eqb c 0x0c then Ok Opcode.StartStored
     else Err (record {})
 
--- how many bytes: the command's byte and its operands
+-- how many bytes it has: that byte and its operands
 abbrev pub opcode_size : Opcode → ℕ
 opcode_size Opcode.Start = 32
 opcode_size Opcode.Accelerations = 25
@@ -111,7 +111,7 @@ opcode_size Opcode.StoredImage = 13
 opcode_size Opcode.View = 2
 opcode_size Opcode.StartStored = 32
 
--- the operands, where they are there
+-- the command with its operands, read where its bytes are all there
 unfoldable pub operands : Opcode → List ℕ → Command
 -- 01 start T, 19 bytes
 operands Opcode.Start l = start Starting.Checked l
@@ -140,7 +140,7 @@ operands Opcode.StartStored l = start Starting.Stored l
 
 -- ---- the command at the head of the input
 
--- the command that the opcode names; with fewer bytes, operands are missing (refusal 7)
+-- the command that the opcode names; where bytes are missing, a bad one (refusal 7)
 unfoldable pub named : Opcode → List ℕ → Command
 named o l = if ltb (length l) (opcode_size o) then Command.Bad else operands o l
 

@@ -1,7 +1,7 @@
 // The bench program's commands: a byte and its operands, big-endian.
 #![tactic(auto)]
 
-ghost use Rattle.std.specs.Prelude.{◌≡◌, ◌+◌, ◌^◌, ◌≤◌, ◌<◌, ◌⊎◌, length, MatchOption, option_map, unwrap_or};
+ghost use Rattle.std.specs.Prelude.{◌≡◌, ◌+◌, ◌^◌, ◌≤◌, ◌<◌, ◌⊎◌, length, MatchOption};
 ghost use Rattle.commands.specs.Decode as D;
 ghost use Rattle.commands.specs.declared.Opcode.TheVariants as Opcode;
 

@@ -113,7 +113,7 @@ size_fits l some = go (is_bad (decoded l)) refl
     go false e = omega (arith, size_wanted l some e, whole_there l some e)
 
 -- a start has its image
-start_size : (by : Starting) (t : Time) → size (Command.Start by t) ≡ 32
+pub start_size : (by : Starting) (t : Time) → size (Command.Start by t) ≡ 32
 unfolding size
 start_size Starting.Checked t = refl
 start_size Starting.Stored t = refl
