@@ -88,6 +88,7 @@ writes b o l c which long sized read = record {
   long = long ∙ sym sized;
 }
 
+-- every call, with operands that fit
 timed_written : (t : Time) (what : Timed) → TimeFits t → TimedFits what → Writes (timed_bytes t what) (Command.Host (Call.At t what))
 unfolding timed_bytes time_bytes bytes TimedFits opcode operands size number_at
 timed_written t (Timed.Accelerations input) f g =
@@ -120,11 +121,11 @@ written Command.Bad image f = record { back = λ rest. unknown 0xff rest (omega 
 pub round_trip : (c : Command) (image rest : List ℕ) → Fits c image → decoded (encoded c image ++ rest) ≡ c
 round_trip c image rest f = (written c image f).back rest
 
--- and is as long as it is written
-pub size_written : (c : Command) (image : List ℕ) → Fits c image → length (encoded c image) ≡ size c
-size_written c image f = (written c image f).long
-
 -- and so are the 19 bytes of a start
 pub image_round_trip : (by : Starting) (t : Time) (given rest : List ℕ) → Fits (Command.Start by t) given → image (encoded (Command.Start by t) given ++ rest) ≡ given
 unfolding encoded Fits time_bytes bytes
 image_round_trip by t given rest f = take_at given rest 19 f.1
+
+-- a command is as long as it is written
+pub size_written : (c : Command) (image : List ℕ) → Fits c image → length (encoded c image) ≡ size c
+size_written c image f = (written c image f).long
