@@ -12,10 +12,10 @@ use Rattle.nv.specs.Cycle as Cycle
 use Rattle.sensor.specs.declared.types.Outage.{Outage}
 use Rattle.sensor.specs.declared.types.Sensor.{Sensor}
 use Rattle.sensor.specs.Record.{away}
-use Rattle.sensor.specs.Image.{byte_at, with_cell}
+use Rattle.sensor.specs.Image.{byte_at, with_cell, power_on}
 use Rattle.sensor.specs.Mode.{criterion}
 use Rattle.sensor.specs.Select.{may_select}
-use Rattle.waits.specs.Supply.{without_report, cut, hold_analog, power_off, zero_while_off, warm_return, cold_return, returned, supply_low, supply_ok, set_supply}
+use Rattle.waits.specs.Supply.{without_report, cut, hold_analog, power_off, zero_while_off, warm_return, returned, supply_low, supply_ok, set_supply}
 use Rattle.waits.specs.Due.{waits_ended, pause_ended, completed, write_ended, hold_ends_now, at_deadline}
 use Rattle.book.proofs.Keeps.{Core, core, with_selected, select_core, waits_keeps, scalars_keeps, waits_served_keeps}
 
@@ -104,7 +104,7 @@ returned_is : (s : Sensor) (o : Outage) (now : Time) → core (returned s o now)
 unfolding returned
 returned_is s o now = go o.cold
   where
-    go : (b : Bool) → core (cond b (cold_return s now) (warm_return s o.since now)) ≡ cond b (cold_again (core s)) (warm_again (core s))
+    go : (b : Bool) → core (cond b (power_on s now) (warm_return s o.since now)) ≡ cond b (cold_again (core s)) (warm_again (core s))
     go true = refl
     go false = (waits_served_keeps _ now).same
 

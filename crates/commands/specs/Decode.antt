@@ -1,5 +1,5 @@
 -- What the bytes of a command mean (01, "Bench program").
-use Rattle.std.specs.Prelude.{Bool, true, false, List, [], ◌∷◌, ℕ, ◌+◌, ◌-◌, ◌*◌, ◌/◌, ◌%◌, ltb, eqb, ℤ, pos, negsuc, length, take, drop, get_or, ◌≡◌, ◌≤◌, ◌<◌, Option, MatchOption, unwrap_or, Result, Ok, Err, if◌then◌else◌}
+use Rattle.std.specs.Prelude.{Bool, true, false, List, [], ◌∷◌, ℕ, ◌+◌, ◌-◌, ◌*◌, ◌/◌, ◌%◌, ltb, eqb, ℤ, pos, negsuc, length, take, drop, get_or, ◌≡◌, ◌≤◌, ◌<◌, Option, Some, None, MatchOption, option_map, unwrap_or, Result, Ok, Err, if◌then◌else◌}
 use Rattle.time.specs.declared.Time.{Time}
 use Rattle.i2c.specs.declared.types.Levels.{Levels}
 use Rattle.calls.specs.declared.types.Timed.{Timed}
@@ -57,75 +57,29 @@ bit b weight = eqb (b / weight % 2) 1
 abbrev pub levels : (b scl sda : ℕ) → Levels
 levels b scl sda = record { scl = bit b scl; sda = bit b sda }
 
--- the command of a timed call, T at its byte 1
-abbrev pub timed : List ℕ → Timed → Command
-timed l t = Command.Host (Call.At (moment_at 1 l) t)
-
--- the command, where its n bytes are there
-abbrev pub within : ℕ → List ℕ → Command → Command
-within n l c = if ltb (length l) n then Command.Bad else c
-
--- the command for 0 and that for 1; another value is not listed
-abbrev pub either_of : (b : ℕ) (low high : Command) → Command
-either_of b low high = if eqb b 0 then low else if eqb b 1 then high else Command.Bad
-
--- ---- the commands
-
--- 01 start T, 19 bytes; 0c the same with an image that was stored
-unfoldable pub start : Starting → List ℕ → Command
-start by l = within 32 l (Command.Start by (moment_at 1 l))
+-- a start, T at its byte 1
+abbrev pub start : Starting → List ℕ → Command
+start by l = Command.Start by (moment_at 1 l)
 
 -- the 19 bytes of a start
 abbrev pub image : List ℕ → List ℕ
 image l = part 13 19 l
 
--- 02 accelerations T, three signed 4-byte numbers
-unfoldable pub accelerations : List ℕ → Command
-accelerations l = within 25 l (timed l (Timed.Accelerations (record { x = signed_at 13 l; y = signed_at 17 l; z = signed_at 21 l })))
+-- the command of a timed call, T at its byte 1
+abbrev pub timed : List ℕ → Timed → Command
+timed l t = Command.Host (Call.At (moment_at 1 l) t)
 
--- 03 temperature, signed 4 bytes
-unfoldable pub temperature : List ℕ → Command
-temperature l = within 5 l (Command.Host (Call.Temperature (signed_at 1 l)))
-
--- 04 supply T, 2 bytes
-unfoldable pub supply : List ℕ → Command
-supply l = within 15 l (timed l (Timed.Supply (number_at 13 2 l)))
-
--- 05 due T
-unfoldable pub due : List ℕ → Command
-due l = within 13 l (timed l Timed.Due)
-
--- 06 select, 0 or 1
-unfoldable pub select : List ℕ → Command
-select l = within 2 l (either_of (byte_at 1 l) (Command.Host (Call.Select false)) (Command.Host (Call.Select true)))
-
--- 07 rising T, data 0 or 1
-unfoldable pub rising : List ℕ → Command
-rising l = within 14 l (either_of (byte_at 13 l) (timed l (Timed.Rising false)) (timed l (Timed.Rising true)))
-
--- 08 falling T
-unfoldable pub falling : List ℕ → Command
-falling l = within 13 l (timed l Timed.Falling)
+-- the command for 0 and that for 1; another value is not listed
+abbrev pub either_of : (b : ℕ) (low high : Command) → Command
+either_of b low high = if eqb b 0 then low else if eqb b 1 then high else Command.Bad
 
 -- a byte 0..15: bits 3 and 2 the clock and data before, 1 and 0 after
 abbrev pub lines : List ℕ → ℕ → Command
 lines l b = if ltb 15 b then Command.Bad else timed l (Timed.Pins (levels b 8 4) (levels b 2 1))
 
--- 09 pins T, a byte 0..15
-unfoldable pub pins : List ℕ → Command
-pins l = within 14 l (lines l (byte_at 13 l))
+-- ---- 01's commands: which byte begins each, how many bytes it has, and its operands
 
--- 0a stored image T; the bench program's buffer has 19 bytes
-unfoldable pub stored_image : List ℕ → Command
-stored_image l = within 13 l (Command.Host (Call.StoredImage (moment_at 1 l) 19))
-
--- 0b view, address
-unfoldable pub view : List ℕ → Command
-view l = within 2 l (Command.Host (Call.View (byte_at 1 l)))
-
--- ---- which command a byte begins
-
--- an unknown byte begins none
+-- the command that a byte begins; an unknown one begins none
 unfoldable pub opcode : ℕ → Result Opcode UnknownByte
 opcode c =
     if eqb c 0x01 then Ok Opcode.Start
@@ -142,20 +96,53 @@ opcode c =
     else if eqb c 0x0c then Ok Opcode.StartStored
     else Err (record {})
 
--- the command that the opcode names
+-- how many bytes it has: that byte and its operands
+abbrev pub opcode_size : Opcode → ℕ
+opcode_size Opcode.Start = 32
+opcode_size Opcode.Accelerations = 25
+opcode_size Opcode.Temperature = 5
+opcode_size Opcode.Supply = 15
+opcode_size Opcode.Due = 13
+opcode_size Opcode.Select = 2
+opcode_size Opcode.Rising = 14
+opcode_size Opcode.Falling = 13
+opcode_size Opcode.Pins = 14
+opcode_size Opcode.StoredImage = 13
+opcode_size Opcode.View = 2
+opcode_size Opcode.StartStored = 32
+
+-- the command with its operands, read where its bytes are all there
+unfoldable pub operands : Opcode → List ℕ → Command
+-- 01 start T, 19 bytes
+operands Opcode.Start l = start Starting.Checked l
+-- 02 accelerations T, three signed 4-byte numbers
+operands Opcode.Accelerations l = timed l (Timed.Accelerations (record { x = signed_at 13 l; y = signed_at 17 l; z = signed_at 21 l }))
+-- 03 temperature, signed 4 bytes
+operands Opcode.Temperature l = Command.Host (Call.Temperature (signed_at 1 l))
+-- 04 supply T, 2 bytes
+operands Opcode.Supply l = timed l (Timed.Supply (number_at 13 2 l))
+-- 05 due T
+operands Opcode.Due l = timed l Timed.Due
+-- 06 select, 0 or 1
+operands Opcode.Select l = either_of (byte_at 1 l) (Command.Host (Call.Select false)) (Command.Host (Call.Select true))
+-- 07 rising T, data 0 or 1
+operands Opcode.Rising l = either_of (byte_at 13 l) (timed l (Timed.Rising false)) (timed l (Timed.Rising true))
+-- 08 falling T
+operands Opcode.Falling l = timed l Timed.Falling
+-- 09 pins T, a byte 0..15
+operands Opcode.Pins l = lines l (byte_at 13 l)
+-- 0a stored image T; the bench program's buffer has 19 bytes
+operands Opcode.StoredImage l = Command.Host (Call.StoredImage (moment_at 1 l) 19)
+-- 0b view, address
+operands Opcode.View l = Command.Host (Call.View (byte_at 1 l))
+-- 0c as 01, with an image that was stored
+operands Opcode.StartStored l = start Starting.Stored l
+
+-- ---- the command at the head of the input
+
+-- the command that the opcode names; where bytes are missing, a bad one (refusal 7)
 unfoldable pub named : Opcode → List ℕ → Command
-named Opcode.Start l = start Starting.Checked l
-named Opcode.Accelerations l = accelerations l
-named Opcode.Temperature l = temperature l
-named Opcode.Supply l = supply l
-named Opcode.Due l = due l
-named Opcode.Select l = select l
-named Opcode.Rising l = rising l
-named Opcode.Falling l = falling l
-named Opcode.Pins l = pins l
-named Opcode.StoredImage l = stored_image l
-named Opcode.View l = view l
-named Opcode.StartStored l = start Starting.Stored l
+named o l = if ltb (length l) (opcode_size o) then Command.Bad else operands o l
 
 -- an unknown byte is a bad command (refusal 7)
 abbrev pub named_by : Result Opcode UnknownByte → List ℕ → Command
@@ -172,21 +159,6 @@ or_bad o = unwrap_or o Command.Bad
 
 -- ---- how many bytes a command has that begins with the byte c
 
--- its opcode and its operands
-unfoldable pub opcode_size : Opcode → ℕ
-opcode_size Opcode.Start = 32
-opcode_size Opcode.Accelerations = 25
-opcode_size Opcode.Temperature = 5
-opcode_size Opcode.Supply = 15
-opcode_size Opcode.Due = 13
-opcode_size Opcode.Select = 2
-opcode_size Opcode.Rising = 14
-opcode_size Opcode.Falling = 13
-opcode_size Opcode.Pins = 14
-opcode_size Opcode.StoredImage = 13
-opcode_size Opcode.View = 2
-opcode_size Opcode.StartStored = 32
-
 -- an unknown byte is whole at once
 abbrev pub size_by : Result Opcode UnknownByte → ℕ
 size_by (Ok o) = opcode_size o
@@ -197,28 +169,25 @@ wants c = size_by (opcode c)
 
 -- ---- how many bytes a command takes
 
--- how many bytes the command of a timed call is: its byte, T and the operands
-unfoldable pub timed_size : Timed → ℕ
-timed_size (Timed.Accelerations input) = 25
-timed_size (Timed.Supply rail) = 15
-timed_size Timed.Due = 13
-timed_size (Timed.Rising mosi) = 14
-timed_size Timed.Falling = 13
-timed_size (Timed.Pins before after) = 14
+-- the opcode that it begins with; a bad one has none
+abbrev pub opcode_of : Command → Option Opcode
+opcode_of (Command.Start Starting.Checked t) = Some Opcode.Start
+opcode_of (Command.Host (Call.At t (Timed.Accelerations input))) = Some Opcode.Accelerations
+opcode_of (Command.Host (Call.Temperature x)) = Some Opcode.Temperature
+opcode_of (Command.Host (Call.At t (Timed.Supply rail))) = Some Opcode.Supply
+opcode_of (Command.Host (Call.At t Timed.Due)) = Some Opcode.Due
+opcode_of (Command.Host (Call.Select on)) = Some Opcode.Select
+opcode_of (Command.Host (Call.At t (Timed.Rising mosi))) = Some Opcode.Rising
+opcode_of (Command.Host (Call.At t Timed.Falling)) = Some Opcode.Falling
+opcode_of (Command.Host (Call.At t (Timed.Pins before after))) = Some Opcode.Pins
+opcode_of (Command.Host (Call.StoredImage t n)) = Some Opcode.StoredImage
+opcode_of (Command.Host (Call.View address)) = Some Opcode.View
+opcode_of (Command.Start Starting.Stored t) = Some Opcode.StartStored
+opcode_of Command.Bad = None
 
--- how many bytes the command of a call is
-unfoldable pub call_size : Call → ℕ
-call_size (Call.At t what) = timed_size what
-call_size (Call.Temperature x) = 5
-call_size (Call.Select on) = 2
-call_size (Call.View address) = 2
-call_size (Call.StoredImage t n) = 13
-
--- how many bytes a command is; a bad one takes its first
+-- as many as its opcode says; a bad one takes its first
 unfoldable pub size : Command → ℕ
-size (Command.Start by t) = 32
-size (Command.Host c) = call_size c
-size Command.Bad = 1
+size c = unwrap_or (option_map opcode_size (opcode_of c)) 1
 
 -- refusal 7
 unfoldable pub is_bad : Command → Bool

@@ -1,8 +1,9 @@
 // The bench program's commands: a byte and its operands, big-endian.
 #![tactic(auto)]
 
-ghost use Rattle.std.specs.Prelude.{◌≡◌, ◌+◌, ◌^◌, ◌≤◌, ◌<◌, ◌⊎◌, length, MatchOption, option_map, unwrap_or};
+ghost use Rattle.std.specs.Prelude.{◌≡◌, ◌+◌, ◌^◌, ◌≤◌, ◌<◌, ◌⊎◌, length, MatchOption};
 ghost use Rattle.commands.specs.Decode as D;
+ghost use Rattle.commands.specs.declared.Opcode.TheVariants as Opcode;
 
 use analog::types::Acceleration;
 use calls::types::{Call, Starting, Timed};
@@ -74,7 +75,6 @@ impl TryFrom<u8> for Opcode {
 
 impl Opcode {
     // How many bytes the command has.
-    #[tactic(auto, unfolding(crate::specs::Decode::opcode_size))]
     fn size(self) -> usize
         ensures { result ≡ D.opcode_size self }
     {
@@ -138,9 +138,8 @@ fn levels(b: u8, scl: u8, sda: u8) -> Levels
 }
 
 // A start, if its image is there too.
-#[tactic(auto, unfolding(crate::specs::Decode::start))]
 fn start(by: Starting, command: &[u8]) -> Option<Command>
-    ensures { D.or_bad result ≡ D.start by command.now }
+    ensures { D.Reads result command.now 32 (D.start by command.now) }
 {
     command.get(IMAGE)?;
     Some(Command::Start(by, moment(command, 1)?))
@@ -153,9 +152,9 @@ fn timed(command: &[u8], what: Timed) -> Option<Command>
     Some(Command::Host(Call::At(moment(command, 1)?, what)))
 }
 
-#[tactic(auto, unfolding(crate::specs::Decode::accelerations))]
+#[tactic(auto, unfolding(crate::specs::Decode::named, crate::specs::Decode::operands))]
 fn accelerations(command: &[u8]) -> Option<Command>
-    ensures { D.or_bad result ≡ D.accelerations command.now }
+    ensures { D.or_bad result ≡ D.named Opcode.Accelerations command.now }
 {
     let input = Acceleration {
         x: signed(command, 13)?,
@@ -166,9 +165,9 @@ fn accelerations(command: &[u8]) -> Option<Command>
 }
 
 // A byte 0..15: bits 3 and 2 the clock and data before, 1 and 0 after.
-#[tactic(auto, unfolding(crate::specs::Decode::pins))]
+#[tactic(auto, unfolding(crate::specs::Decode::named, crate::specs::Decode::operands))]
 fn pins(command: &[u8]) -> Option<Command>
-    ensures { D.or_bad result ≡ D.pins command.now }
+    ensures { D.or_bad result ≡ D.named Opcode.Pins command.now }
 {
     match *command.get(13)? {
         b @ 0..=15 => timed(command, Timed::Pins(levels(b, 3, 2), levels(b, 1, 0))),
@@ -177,7 +176,7 @@ fn pins(command: &[u8]) -> Option<Command>
 }
 
 // The command that the opcode names.
-#[tactic(auto, unfolding(crate::specs::Decode::named, crate::specs::Decode::temperature, crate::specs::Decode::supply, crate::specs::Decode::due, crate::specs::Decode::select, crate::specs::Decode::rising, crate::specs::Decode::falling, crate::specs::Decode::stored_image, crate::specs::Decode::view), using(crate::proofs::Bytes::number_2))]
+#[tactic(auto, unfolding(crate::specs::Decode::named, crate::specs::Decode::operands), using(crate::proofs::Bytes::number_2))]
 fn named(opcode: Opcode, command: &[u8]) -> Option<Command>
     ensures { D.or_bad result ≡ D.named opcode command.now }
 {
@@ -218,9 +217,8 @@ pub fn decode(bytes: &[u8]) -> Command
 
 impl Command {
     // The opcode that it begins with; a bad one has none.
-    #[tactic(auto, unfolding(crate::specs::Decode::size, crate::specs::Decode::call_size, crate::specs::Decode::timed_size, crate::specs::Decode::opcode_size))]
     fn opcode(self) -> Option<Opcode>
-        ensures { D.size self ≡ unwrap_or (option_map D.opcode_size result) 1 }
+        ensures { result ≡ D.opcode_of self }
     {
         match self {
             Command::Start(Starting::Checked, _) => Some(Opcode::Start),
@@ -241,6 +239,7 @@ impl Command {
 }
 
 // How many bytes a command is; a bad one takes its first.
+#[tactic(auto, unfolding(crate::specs::Decode::size))]
 pub fn size(c: Command) -> usize
     ensures { result ≡ D.size c }
 {

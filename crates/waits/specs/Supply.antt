@@ -65,11 +65,8 @@ reacquired s now = if s.sampling.asleep then s else start_acquisition s now (fro
 abbrev pub warm_return : Sensor → (lost : Time) (now : Time) → Sensor
 warm_return s lost now = reacquired (with_outage (with_deadlines s (shifted s.deadlines (since now lost))) None) now
 
-abbrev pub cold_return : Sensor → (now : Time) → Sensor
-cold_return s now = power_on s now
-
 unfoldable pub returned : Sensor → Outage → (now : Time) → Sensor
-returned s o now = if o.cold then cold_return s now else warm_return s o.since now
+returned s o now = if o.cold then power_on s now else warm_return s o.since now
 
 -- ---- 01: below 2400 mV the sensor is off (`set_supply`)
 

@@ -19,7 +19,7 @@ use Rattle.bma150.specs.Values.{drive_letter, view_value, mark_letter}
 use Rattle.bma150.specs.Called.{after_start, leaves, adds}
 use Rattle.machine.specs.Machine.{turn}
 use Rattle.machine.specs.Block as M
-use Rattle.commands.specs.Decode.{number_at, view, opcode, named, decoded, opcode_size, wants, call_size, size, is_bad}
+use Rattle.commands.specs.Decode.{number_at, opcode, operands, named, decoded, wants, size, is_bad}
 use Rattle.bench.specs.Text.{word, bit, view_text, mark_text, due_text}
 use Rattle.bench.specs.Line.{commanded, added_text, pins, line}
 use Rattle.bench.specs.declared.Ran.{Ran}
@@ -47,7 +47,7 @@ abbrev over : Turn
 over = arrived 0 ran.sensor
 
 pub example : Turns false 3 sent (ascii "0b ok 0 F F 02\n") over []
-unfolding facts wrong_length out_of_range jumps late too_late goes_back before_due beside_due first_found refusal reserved turned_down start_refusal unless_refused after_start leaves adds shadowing peek is_acceleration mark mark_of shown interrupt shows_new_data output data_output spi_drives i2c_holds drive_letter view_value mark_letter is_set away withheld unreadable image_blocks locked Pin.output Pin.threshold_output Pin.motion_output configure number_at view opcode named decoded opcode_size wants call_size size is_bad word bit view_text mark_text due_text commanded added_text pins line turn iterate M.needed_bytes M.bounded_turn M.block is_whole goes_on
+unfolding facts wrong_length out_of_range jumps late too_late goes_back before_due beside_due first_found refusal reserved turned_down start_refusal unless_refused after_start leaves adds shadowing peek is_acceleration mark mark_of shown interrupt shows_new_data output data_output spi_drives i2c_holds drive_letter view_value mark_letter is_set away withheld unreadable image_blocks locked Pin.output Pin.threshold_output Pin.motion_output configure number_at opcode operands named decoded wants size is_bad word bit view_text mark_text due_text commanded added_text pins line turn iterate M.needed_bytes M.bounded_turn M.block is_whole goes_on
 example =
     Turns.more
     (Turns.more

@@ -5,7 +5,7 @@ use Rattle.std.proofs.Math.Path.{refl}
 use Rattle.std.proofs.Common.{sym, ap, subst, ◌∙◌}
 use Rattle.laws.specs.Bytes.{shifted_in}
 use Rattle.time.specs.Time.{same, time}
-use Rattle.sensor.specs.Image.{stock}
+use Rattle.sensor.specs.Image.{stock, power_on}
 use Rattle.time.specs.declared.Time.{Time}
 use Rattle.nv.specs.Cycle as Cycle
 use Rattle.i2c.specs.declared.types.Edge.{Edge}
@@ -36,7 +36,7 @@ use Rattle.samples.specs.Samples.{sync_local_until}
 use Rattle.writes.specs.Write.{register_effect, write_effect, write_kind}
 use Rattle.serial.specs.SpiEdges as E
 use Rattle.serial.specs.I2cPins.{i2c_listens, ones_for, launched, acted, i2c_pins, pins_synced}
-use Rattle.waits.specs.Supply.{without_report, cut, hold_analog, cold_return, zero_while_off, warm_return, returned, supply_low, supply_ok, set_supply}
+use Rattle.waits.specs.Supply.{without_report, cut, hold_analog, zero_while_off, warm_return, returned, supply_low, supply_ok, set_supply}
 use Rattle.waits.specs.Due.{completed, waits_ended, pause_ended, write_ended, hold_ends_now, at_deadline}
 use Rattle.bma150.specs.declared.host.Bma150.{Bma150}
 use Rattle.bma150.specs.Called.{Acts, acts, left_by, start_number, started, after_start, effect, leaves}
@@ -221,7 +221,7 @@ returned_rests : (s : Sensor) (o : Outage) (now : Time) → Rested s.frame → R
 unfolding returned
 returned_rests s o now h = by o.cold
   where
-    by : (b : Bool) → Rested (cond b (cold_return s now) (warm_return s o.since now)).frame
+    by : (b : Bool) → Rested (cond b (power_on s now) (warm_return s o.since now)).frame
     by true = fresh_rests false
     by false = rested (kept (K.waits_served_keeps _ now)) h
 

@@ -32,66 +32,47 @@ abbrev pub DueAt : Option Time → Time → Type 0
 DueAt None now = ⊥
 DueAt (Some d) now = ticks d ≡ ticks now
 
--- 1: the buffer for the stored image is not 19 bytes
-abbrev pub WrongLength : Call → Type 0
-WrongLength (Call.At now t) = ⊥
-WrongLength (Call.Temperature x) = ⊥
-WrongLength (Call.Select on) = ⊥
-WrongLength (Call.View address) = ⊥
-WrongLength (Call.StoredImage now n) = n ≡ 19 → ⊥
-
--- 3 and 4: the call has a time, and it is so
-abbrev pub HasTime : Call → (Time → Type 0) → Type 0
-HasTime (Call.At now t) So = So now
-HasTime (Call.Temperature x) So = ⊥
-HasTime (Call.Select on) So = ⊥
-HasTime (Call.View address) So = ⊥
-HasTime (Call.StoredImage now n) So = So now
-
--- 2: some axis is beyond
+-- some axis is beyond
 abbrev pub AnyBeyond : Acceleration → Type 0
 AnyBeyond input = Beyond input.x ⊎ (Beyond input.y ⊎ Beyond input.z)
 
--- 2, 5 and 6: of the timed calls
-abbrev pub AxisBeyond : Timed → Type 0
-AxisBeyond (Timed.Accelerations input) = AnyBeyond input
-AxisBeyond (Timed.Supply rail) = ⊥
-AxisBeyond Timed.Due = ⊥
-AxisBeyond (Timed.Rising mosi) = ⊥
-AxisBeyond Timed.Falling = ⊥
-AxisBeyond (Timed.Pins before after) = ⊥
+-- each fault only where it applies: `_` is every other call
 
--- 8: the levels before a pin report are not those after the last accepted one
-abbrev pub Jumps : (lines : Levels) → Timed → Type 0
-Jumps lines (Timed.Accelerations input) = ⊥
-Jumps lines (Timed.Supply rail) = ⊥
-Jumps lines Timed.Due = ⊥
-Jumps lines (Timed.Rising mosi) = ⊥
-Jumps lines Timed.Falling = ⊥
-Jumps lines (Timed.Pins before after) = before ≡ lines → ⊥
+-- 1: the stored-image call, and its buffer is not 19 bytes
+abbrev pub WrongLength : Call → Type 0
+WrongLength (Call.StoredImage now n) = n ≡ 19 → ⊥
+WrongLength _ = ⊥
 
-abbrev pub DueFirst : Option Time → Time → Timed → Type 0
-DueFirst due now (Timed.Accelerations input) = DueBy due now
-DueFirst due now (Timed.Supply rail) = DueBy due now
-DueFirst due now Timed.Due = ⊥
-DueFirst due now (Timed.Rising mosi) = DueBy due now
-DueFirst due now Timed.Falling = DueBy due now
-DueFirst due now (Timed.Pins before after) = DueBy due now
+-- 3 and 4: a timed call or the stored-image call, and its time is so
+abbrev pub HasTime : Call → (Time → Type 0) → Type 0
+HasTime (Call.At now t) So = So now
+HasTime (Call.StoredImage now n) So = So now
+HasTime _ So = ⊥
 
-abbrev pub NotDue : Option Time → Time → Timed → Type 0
-NotDue due now (Timed.Accelerations input) = ⊥
-NotDue due now (Timed.Supply rail) = ⊥
-NotDue due now Timed.Due = DueAt due now → ⊥
-NotDue due now (Timed.Rising mosi) = ⊥
-NotDue due now Timed.Falling = ⊥
-NotDue due now (Timed.Pins before after) = ⊥
-
+-- 2, 8, 5 and 6: a timed call, and it is so
 abbrev pub IsTimed : Call → (Time → Timed → Type 0) → Type 0
 IsTimed (Call.At now t) So = So now t
-IsTimed (Call.Temperature x) So = ⊥
-IsTimed (Call.Select on) So = ⊥
-IsTimed (Call.View address) So = ⊥
-IsTimed (Call.StoredImage now n) So = ⊥
+IsTimed _ So = ⊥
+
+-- 2: the accelerations call, and an axis is beyond
+abbrev pub AxisBeyond : Timed → Type 0
+AxisBeyond (Timed.Accelerations input) = AnyBeyond input
+AxisBeyond _ = ⊥
+
+-- 8: a pin report, and the levels before it are not those after the last accepted one
+abbrev pub Jumps : (lines : Levels) → Timed → Type 0
+Jumps lines (Timed.Pins before after) = before ≡ lines → ⊥
+Jumps lines _ = ⊥
+
+-- 5: a timed call other than the due call, and next due is at or before its time
+abbrev pub DueFirst : Option Time → Time → Timed → Type 0
+DueFirst due now Timed.Due = ⊥
+DueFirst due now _ = DueBy due now
+
+-- 6: the due call, and its time is not next due, or nothing is due
+abbrev pub NotDue : Option Time → Time → Timed → Type 0
+NotDue due now Timed.Due = DueAt due now → ⊥
+NotDue due now _ = ⊥
 
 -- 01's table, in its order
 abbrev pub faults : Time → Option Time → Levels → Call → List Fault
@@ -245,23 +226,19 @@ module _ (last : Time) (due : Option Time) (lines : Levels) where
       → Found c
   found c length limit back axis jump due_first not_due = ((refl, length), ((refl, limit), ((refl, back), ((refl, axis), ((refl, jump), ((refl, due_first), ((refl, not_due), tt)))))))
 
-  -- a row for each: what is asked of a timed call computes only once it is known which call it is
+  -- what is asked of a call computes only once it is known which call it is: a last line stands for each of the others
   timed_found : (now : Time) (t : Timed) → Found (Call.At now t)
   unfolding facts timed_facts wrong_length too_late goes_back out_of_range jumps before_due beside_due due_by due_at
   timed_found now (Timed.Accelerations input) = found (Call.At now (Timed.Accelerations input)) never_tells (late_tells now) (back_tells last now) (axes_tell input) never_tells (by_tells due now) never_tells
-  timed_found now (Timed.Supply rail) = found (Call.At now (Timed.Supply rail)) never_tells (late_tells now) (back_tells last now) never_tells never_tells (by_tells due now) never_tells
   timed_found now Timed.Due = found (Call.At now Timed.Due) never_tells (late_tells now) (back_tells last now) never_tells never_tells never_tells (not_at_tells due now)
-  timed_found now (Timed.Rising mosi) = found (Call.At now (Timed.Rising mosi)) never_tells (late_tells now) (back_tells last now) never_tells never_tells (by_tells due now) never_tells
-  timed_found now Timed.Falling = found (Call.At now Timed.Falling) never_tells (late_tells now) (back_tells last now) never_tells never_tells (by_tells due now) never_tells
   timed_found now (Timed.Pins before after) = found (Call.At now (Timed.Pins before after)) never_tells (late_tells now) (back_tells last now) never_tells (jump_tells lines before) (by_tells due now) never_tells
+  timed_found now t = found (Call.At now t) never_tells (late_tells now) (back_tells last now) never_tells never_tells (by_tells due now) never_tells
 
   finds : (c : Call) → Found c
   unfolding facts wrong_length too_late goes_back out_of_range jumps before_due beside_due
   finds (Call.At now t) = timed_found now t
-  finds (Call.Temperature x) = found (Call.Temperature x) never_tells never_tells never_tells never_tells never_tells never_tells never_tells
-  finds (Call.Select on) = found (Call.Select on) never_tells never_tells never_tells never_tells never_tells never_tells never_tells
-  finds (Call.View address) = found (Call.View address) never_tells never_tells never_tells never_tells never_tells never_tells never_tells
   finds (Call.StoredImage now n) = found (Call.StoredImage now n) (length_tells n) (late_tells now) (back_tells last now) never_tells never_tells never_tells never_tells
+  finds c = found c never_tells never_tells never_tells never_tells never_tells never_tells never_tells
 
   -- the number that a call gets is that of the first fault, or 0
   pub refused_only : (c : Call) → First (faults last due lines c) (refusal last due lines c)

@@ -17,9 +17,10 @@ use Rattle.calls.specs.declared.types.Starting.{Starting}
 use Rattle.commands.specs.declared.Command.{Command}
 use Rattle.commands.specs.declared.Opcode.{Opcode}
 use Rattle.commands.specs.declared.UnknownByte.{UnknownByte}
-use Rattle.commands.specs.Decode.{part, number_at, signed, moment_at, byte_at, bit, levels, timed, start, image, accelerations, temperature, supply, due, select, rising, falling, pins, stored_image, view, opcode, named, named_by, decoded, timed_size, call_size, size, is_bad}
+use Rattle.commands.specs.Decode.{part, number_at, signed, moment_at, byte_at, bit, levels, timed, start, image, opcode, operands, named, named_by, decoded, size, is_bad}
 use Rattle.commands.specs.Encode.{start_byte, bytes, time_bytes, complement, weighed, lines_byte, timed_bytes, call_bytes, encoded, TimeFits, SignedFits, TimedFits, CallFits, Fits}
 use Rattle.commands.proofs.Theorems.Laws.{number_more, part_more}
+use Rattle.commands.proofs.Theorems.More.{start_size}
 use Rattle.printed.specs.Commands.{Bytes}
 
 -- ---- numbers
@@ -164,17 +165,17 @@ module _ (b : ℕ) (m : List ℕ) (all : Bytes (b ∷ m)) where
 
   -- ---- each command
 
-  start_back : (by : Starting) → b ≡ start_byte by → Back (start by l)
-  unfolding start size encoded Fits
+  start_back : (by : Starting) → b ≡ start_byte by → Back (cond (ltb (length l) 32) Command.Bad (start by l))
+  unfolding encoded Fits
   start_back by e =
       there 32 _
       (λ h z. record {
-        is = front_and (start_byte by) 19 (image l) e h refl;
+        is = rw (start_size by t) (front_and (start_byte by) 19 (image l) e h refl);
         fits = (time_fits (omega arith), length-take-le 19 (drop 13 l) (simp length-drop (omega arith)));
       })
 
-  accelerations_back : b ≡ 0x02 → Back (accelerations l)
-  unfolding accelerations size call_size timed_size encoded call_bytes timed_bytes Fits CallFits TimedFits
+  accelerations_back : b ≡ 0x02 → Back (named Opcode.Accelerations l)
+  unfolding named operands size encoded call_bytes timed_bytes Fits CallFits TimedFits
   accelerations_back e =
       there 25 _
       (λ h z. record {
@@ -184,8 +185,8 @@ module _ (b : ℕ) (m : List ℕ) (all : Bytes (b ∷ m)) where
         fits = (time_fits (omega arith), (signed_in 13 (omega arith), signed_in 17 (omega arith), signed_in 21 (omega arith)));
       })
 
-  temperature_back : b ≡ 0x03 → Back (temperature l)
-  unfolding temperature size call_size encoded call_bytes Fits CallFits
+  temperature_back : b ≡ 0x03 → Back (named Opcode.Temperature l)
+  unfolding named operands size encoded call_bytes Fits CallFits
   temperature_back e =
       there 5 _
       (λ h z. record {
@@ -193,36 +194,36 @@ module _ (b : ℕ) (m : List ℕ) (all : Bytes (b ∷ m)) where
         fits = signed_in 1 h;
       })
 
-  supply_back : b ≡ 0x04 → Back (supply l)
-  unfolding supply size call_size timed_size encoded call_bytes timed_bytes Fits CallFits TimedFits
+  supply_back : b ≡ 0x04 → Back (named Opcode.Supply l)
+  unfolding named operands size encoded call_bytes timed_bytes Fits CallFits TimedFits
   supply_back e = there 15 _ (λ h z. record { is = front_and 0x04 2 _ e h (sym (bytes_back 13 2 h)); fits = (time_fits (omega arith), number_fits 13 2 h) })
 
-  due_back : b ≡ 0x05 → Back (due l)
-  unfolding due size call_size timed_size encoded call_bytes timed_bytes Fits CallFits TimedFits
+  due_back : b ≡ 0x05 → Back (named Opcode.Due l)
+  unfolding named operands size encoded call_bytes timed_bytes Fits CallFits TimedFits
   due_back e = there 13 _ (λ h z. record { is = front 0x05 e h; fits = (time_fits h, tt) })
 
-  select_back : b ≡ 0x06 → Back (select l)
-  unfolding select size call_size encoded call_bytes Fits CallFits
+  select_back : b ≡ 0x06 → Back (named Opcode.Select l)
+  unfolding named operands size encoded call_bytes Fits CallFits
   select_back e =
       there 2 _
       (λ h.
       is_byte (byte_at 1 l) 0 _ _ (λ v z. record { is = two 0x06 e h ∙ ap (λ (y : ℕ). 0x06 ∷ y ∷ []) v; fits = tt })
       (is_byte (byte_at 1 l) 1 _ _ (λ v z. record { is = two 0x06 e h ∙ ap (λ (y : ℕ). 0x06 ∷ y ∷ []) v; fits = tt }) bad_back))
 
-  rising_back : b ≡ 0x07 → Back (rising l)
-  unfolding rising size call_size timed_size encoded call_bytes timed_bytes Fits CallFits TimedFits
+  rising_back : b ≡ 0x07 → Back (named Opcode.Rising l)
+  unfolding named operands size encoded call_bytes timed_bytes Fits CallFits TimedFits
   rising_back e =
       there 14 _
       (λ h.
       is_byte (byte_at 13 l) 0 _ _ (λ v z. record { is = front_and 0x07 1 _ e h (one_byte 13 (omega arith) ∙ ap (λ (y : ℕ). y ∷ []) v); fits = (time_fits (omega arith), tt) })
       (is_byte (byte_at 13 l) 1 _ _ (λ v z. record { is = front_and 0x07 1 _ e h (one_byte 13 (omega arith) ∙ ap (λ (y : ℕ). y ∷ []) v); fits = (time_fits (omega arith), tt) }) bad_back))
 
-  falling_back : b ≡ 0x08 → Back (falling l)
-  unfolding falling size call_size timed_size encoded call_bytes timed_bytes Fits CallFits TimedFits
+  falling_back : b ≡ 0x08 → Back (named Opcode.Falling l)
+  unfolding named operands size encoded call_bytes timed_bytes Fits CallFits TimedFits
   falling_back e = there 13 _ (λ h z. record { is = front 0x08 e h; fits = (time_fits h, tt) })
 
-  pins_back : b ≡ 0x09 → Back (pins l)
-  unfolding pins size call_size timed_size encoded call_bytes timed_bytes Fits CallFits TimedFits
+  pins_back : b ≡ 0x09 → Back (named Opcode.Pins l)
+  unfolding named operands size encoded call_bytes timed_bytes Fits CallFits TimedFits
   pins_back e = there 14 _ (λ h. go h (ltb 15 (byte_at 13 l)) refl)
     where
       go : 14 ≤ length l → (x : Bool) → ltb 15 (byte_at 13 l) ≡ x → Back (cond x Command.Bad (timed l (Timed.Pins (levels (byte_at 13 l) 8 4) (levels (byte_at 13 l) 2 1))))
@@ -231,12 +232,12 @@ module _ (b : ℕ) (m : List ℕ) (all : Bytes (b ∷ m)) where
           let few : byte_at 13 l < 16 = omega (arith, ltb-false 15 (byte_at 13 l) q) in
           record { is = front_and 0x09 1 _ e h (one_byte 13 (omega arith) ∙ ap (λ (y : ℕ). y ∷ []) (sym (lines_byte_back (byte_at 13 l) few))); fits = (time_fits (omega arith), tt) }
 
-  stored_image_back : b ≡ 0x0a → Back (stored_image l)
-  unfolding stored_image size call_size encoded call_bytes Fits CallFits
+  stored_image_back : b ≡ 0x0a → Back (named Opcode.StoredImage l)
+  unfolding named operands size encoded call_bytes Fits CallFits
   stored_image_back e = there 13 _ (λ h z. record { is = front 0x0a e h; fits = (time_fits h, refl) })
 
-  view_back : b ≡ 0x0b → Back (view l)
-  unfolding view size call_size encoded call_bytes Fits CallFits bytes
+  view_back : b ≡ 0x0b → Back (named Opcode.View l)
+  unfolding named operands size encoded call_bytes Fits CallFits bytes
   view_back e =
       there 2 _ (λ h z. record { is = two 0x0b e h ∙ ap (λ (y : ℕ). 0x0b ∷ y ∷ []) (sym (mod-eq_of_lt {n = byte_at 1 l} {m = 256} (all 1))); fits = all 1 })
 
@@ -251,7 +252,7 @@ module _ (b : ℕ) (m : List ℕ) (all : Bytes (b ∷ m)) where
       go false e = g
 
   named_back : Back (named_by (opcode b) l)
-  unfolding opcode named start_byte
+  unfolding opcode named operands start_byte
   named_back =
       is_opcode 0x01 Opcode.Start _ (start_back Starting.Checked)
       (is_opcode 0x02 Opcode.Accelerations _ accelerations_back
