@@ -56,10 +56,8 @@ pub data Added : Type 0 where
 
 -- the report of an answer
 unfoldable pub reported : Added → List ℕ
-reported Added.nothing = []
 reported (Added.report values) = values
-reported (Added.viewed value mark) = []
-reported (Added.put bytes) = []
+reported _ = []
 
 -- the answer of a view: the byte and its mark, or the absence of both
 unfoldable pub of_view : Option Viewed → Added
@@ -68,10 +66,8 @@ of_view (Some v) = Added.viewed (view_value (Some v.byte)) (mark_letter v.mark)
 
 -- the lent buffer after the call
 unfoldable pub put_in : Added → (buffer : List ℕ) → List ℕ
-put_in Added.nothing buffer = buffer
-put_in (Added.report values) buffer = buffer
-put_in (Added.viewed value mark) buffer = buffer
 put_in (Added.put bytes) buffer = bytes
+put_in _ buffer = buffer
 
 -- ---- an accepted call
 
@@ -86,12 +82,9 @@ effect s now (Timed.Pins before after) = without_report (with_lines (i2c_pins_at
 
 -- supply and due calls report
 unfoldable pub timed_adds : Timed → Option Report → Added
-timed_adds (Timed.Accelerations input) r = Added.nothing
 timed_adds (Timed.Supply rail) r = Added.report (report_values r)
 timed_adds Timed.Due r = Added.report (report_values r)
-timed_adds (Timed.Rising mosi) r = Added.nothing
-timed_adds Timed.Falling r = Added.nothing
-timed_adds (Timed.Pins before after) r = Added.nothing
+timed_adds _ r = Added.nothing
 
 -- the sensor at a timed call's moment, after it
 abbrev pub served : Bma150 → (now : Time) → Timed → Served

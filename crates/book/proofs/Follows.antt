@@ -28,7 +28,7 @@ use Rattle.bma150.specs.declared.host.Bma150.{Bma150}
 use Rattle.bma150.specs.Called.{Acts, acts, left_by, effect, leaves}
 use Rattle.book.specs.Does.{at_rise, at_pins, timed_does, act_does, does}
 use Rattle.book.specs.Lists.{accepts, step, Start, started, after, accepted, last_kept, kept}
-use Rattle.book.specs.Follows.{timed_levels, call_levels, last_levels, both_high, lines, Follows}
+use Rattle.book.specs.Follows.{call_levels, last_levels, both_high, lines, Follows}
 use Rattle.book.proofs.Call.{after_call, at_start}
 use Rattle.book.proofs.Keeps.{Core, core, then, select_core, sync_keeps, rise_synced_keeps, pins_synced_keeps, falling_keeps}
 use Rattle.book.proofs.Pins.{rising_keeps, pins_keeps}
@@ -119,17 +119,9 @@ kept_follows b cs = after_kept (started b) cs ∙ ap (λ (k : Kept). last_kept k
 -- ---- the levels of the lines
 
 does_levels : (c : Call) (k : Kept) → ((does c).keeps k).lines ≡ call_levels c k.lines
-unfolding does timed_does call_levels timed_levels
-does_levels (Call.At now (Timed.Accelerations input)) k = refl
-does_levels (Call.At now (Timed.Supply rail)) k = refl
-does_levels (Call.At now Timed.Due) k = refl
-does_levels (Call.At now (Timed.Rising mosi)) k = refl
-does_levels (Call.At now Timed.Falling) k = refl
+unfolding does timed_does call_levels
 does_levels (Call.At now (Timed.Pins from to)) k = refl
-does_levels (Call.Temperature x) k = refl
-does_levels (Call.Select on) k = refl
-does_levels (Call.View address) k = refl
-does_levels (Call.StoredImage now length) k = refl
+does_levels _ k = refl
 
 list_levels : (k : Kept) (cs : List Call) → (last_kept k cs).lines ≡ last_levels k.lines cs
 unfolding last_kept last_levels

@@ -32,11 +32,8 @@ spi_write s mosi = if spi_listens s && not s.frame.turnaround then (F.take_bit s
 
 -- I2C: the eighth rise of a value byte
 unfoldable pub action_write : Option Action → Option (ℕ × ℕ)
-action_write None = None
-action_write (Some Action.Drop) = None
 action_write (Some (Action.Write register value)) = Some (register, value)
-action_write (Some (Action.Launch register)) = None
-action_write (Some (Action.ReadBegan register)) = None
+action_write _ = None
 
 unfoldable pub i2c_write : Sensor → Edge → Option (ℕ × ℕ)
 i2c_write s e = if i2c_listens s then action_write (E.step s.i2c e (is_quiet s) (ones_for s.frame.tx)).action else None

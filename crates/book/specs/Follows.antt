@@ -6,27 +6,14 @@ use Rattle.i2c.specs.declared.types.Edge.TheVariants as Edge
 use Rattle.i2c.specs.Bus.{edge}
 use Rattle.calls.specs.declared.types.Timed.{Timed}
 use Rattle.calls.specs.declared.types.Call.{Call}
-use Rattle.bma150.specs.Called.{Acts, acts}
 use Rattle.book.specs.Lists.{Start, started, accepts, after, accepted}
 
 -- ---- the levels of the lines, told from the calls alone
 
 -- an accepted report brings the levels after it; no other call changes them
-unfoldable pub timed_levels : Timed → (before : Levels) → Levels
-timed_levels (Timed.Accelerations input) before = before
-timed_levels (Timed.Supply rail) before = before
-timed_levels Timed.Due before = before
-timed_levels (Timed.Rising mosi) before = before
-timed_levels Timed.Falling before = before
-timed_levels (Timed.Pins from to) before = to
-
-abbrev pub act_levels : Acts → (before : Levels) → Levels
-act_levels (Acts.timed now t) before = timed_levels t before
-act_levels (Acts.select on) before = before
-act_levels (Acts.keeps f) before = before
-
 unfoldable pub call_levels : Call → (before : Levels) → Levels
-call_levels c before = act_levels (acts c) before
+call_levels (Call.At now (Timed.Pins from to)) before = to
+call_levels _ before = before
 
 unfoldable pub last_levels : (before : Levels) → List Call → Levels
 last_levels before [] = before

@@ -15,17 +15,13 @@ use Rattle.book.specs.Does.{does}
 -- ---- the fraction of a pin call's time is a 64-bit word, as its type has it; no other argument is bounded
 
 abbrev pub FitsTimed : Time → Timed → Type 0
-FitsTimed now (Timed.Accelerations input) = Unit {0}
-FitsTimed now (Timed.Supply rail) = Unit {0}
-FitsTimed now Timed.Due = Unit {0}
 FitsTimed now (Timed.Rising mosi) = now.1 < 2 ^ 64
-FitsTimed now Timed.Falling = Unit {0}
 FitsTimed now (Timed.Pins before after) = now.1 < 2 ^ 64
+FitsTimed now _ = Unit {0}
 
 abbrev pub ActFits : Acts → Type 0
 ActFits (Acts.timed now t) = FitsTimed now t
-ActFits (Acts.select on) = Unit {0}
-ActFits (Acts.keeps f) = Unit {0}
+ActFits _ = Unit {0}
 
 abbrev pub Fits : Call → Type 0
 Fits c = ActFits (acts c)

@@ -36,18 +36,13 @@ pub record Heard (s : Sensor) : Type 0 where
 
 -- the event of a timed call: that of a report (UM10204 3.1.3, 3.1.4)
 unfoldable pub timed_event : Timed → Edge
-timed_event (Timed.Accelerations input) = Still
-timed_event (Timed.Supply rail) = Still
-timed_event Timed.Due = Still
-timed_event (Timed.Rising mosi) = Still
-timed_event Timed.Falling = Still
 timed_event (Timed.Pins before after) = edge before after
+timed_event _ = Still
 
 -- the event of a call: only a report has one
 abbrev pub act_event : Acts → Edge
 act_event (Acts.timed now t) = timed_event t
-act_event (Acts.select on) = Still
-act_event (Acts.keeps f) = Still
+act_event _ = Still
 
 unfoldable pub event : Call → Edge
 event c = act_event (acts c)
@@ -75,31 +70,19 @@ fetch s r = ones_for (prepare_read s r).sent
 
 -- a soft reset
 unfoldable pub is_reset : WriteKind → Bool
-is_reset WriteKind.Ignored = false
-is_reset WriteKind.Stored = false
 is_reset (WriteKind.Taken Effect.Reset) = true
-is_reset (WriteKind.Taken Effect.Control) = false
-is_reset (WriteKind.Taken Effect.Measurement) = false
-is_reset (WriteKind.Taken Effect.Operation) = false
-is_reset (WriteKind.Taken Effect.Durations) = false
-is_reset (WriteKind.Taken Effect.Plain) = false
+is_reset _ = false
 
 -- what the engine asks for is the write of a soft reset, as the registers of the sensor are
 unfoldable pub resets : Sensor → Option Action → Bool
-resets s None = false
-resets s (Some A.Drop) = false
 resets s (Some (A.Write r v)) = is_reset (write_kind s r v)
-resets s (Some (A.Launch r)) = false
-resets s (Some (A.ReadBegan r)) = false
+resets s _ = false
 
 -- a timed call ends hearing; a report by what the engine asks for, of the sensor with the sample of its moment
 unfoldable pub timed_ends : Sensor → (now : Time) → Timed → Bool
-timed_ends s now (Timed.Accelerations input) = false
 timed_ends s now (Timed.Supply rail) = ltb rail 2400
-timed_ends s now Timed.Due = false
-timed_ends s now (Timed.Rising mosi) = false
-timed_ends s now Timed.Falling = false
 timed_ends s now (Timed.Pins before after) = resets (sampled s now) (deed (target_of s) (edge before after))
+timed_ends s now _ = false
 
 -- a call does
 abbrev pub act_ends : Sensor → Acts → Bool
@@ -120,8 +103,7 @@ ended s (c ∷ cs) = accepts s c && ends s c || ended (step s c) cs
 -- at a call: of the sensor with the sample of its moment
 abbrev pub fetch_at : Sensor → Acts → ℕ → ℕ
 fetch_at s (Acts.timed now t) = fetch (sampled s now)
-fetch_at s (Acts.select on) = fetch s
-fetch_at s (Acts.keeps f) = fetch s
+fetch_at s _ = fetch s
 
 unfoldable pub shows : Bma150 → Call → ℕ → ℕ
 shows s c = fetch_at s.sensor (acts c)
@@ -129,10 +111,7 @@ shows s c = fetch_at s.sensor (acts c)
 -- one entry for each event
 unfoldable pub at_event : {A : Type 0} → Edge → A → List A → List A
 at_event Still a l = l
-at_event Start a l = a ∷ l
-at_event Stop a l = a ∷ l
-at_event (Rise d) a l = a ∷ l
-at_event Fall a l = a ∷ l
+at_event _ a l = a ∷ l
 
 -- what the registers show at each event
 unfoldable pub shown : Bma150 → List Call → List (ℕ → ℕ)

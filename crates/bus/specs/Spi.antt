@@ -30,18 +30,14 @@ pub record Chosen (s : Sensor) : Type 0 where
 
 -- the edge of a timed call
 unfoldable pub timed_edge : Timed → Option Event
-timed_edge (Timed.Accelerations input) = None
-timed_edge (Timed.Supply rail) = None
-timed_edge Timed.Due = None
 timed_edge (Timed.Rising mosi) = Some (Rise mosi)
 timed_edge Timed.Falling = Some Fall
-timed_edge (Timed.Pins before after) = None
+timed_edge _ = None
 
 -- the edge of a call, if it has one
 abbrev pub act_edge : Acts → Option Event
 act_edge (Acts.timed now t) = timed_edge t
-act_edge (Acts.select on) = None
-act_edge (Acts.keeps f) = None
+act_edge _ = None
 
 unfoldable pub edge_of : Call → Option Event
 edge_of c = act_edge (acts c)
@@ -84,18 +80,14 @@ now_at_fall s now =
 
 -- at a timed call; of no account where there is no edge
 unfoldable pub timed_now : Bma150 → (now : Time) → Timed → Now
-timed_now s now (Timed.Accelerations input) = past_end
-timed_now s now (Timed.Supply rail) = past_end
-timed_now s now Timed.Due = past_end
 timed_now s now (Timed.Rising mosi) = now_at_rise s now (Call.At now (Timed.Rising mosi))
 timed_now s now Timed.Falling = now_at_fall s now
-timed_now s now (Timed.Pins before after) = past_end
+timed_now s now _ = past_end
 
 -- at a call
 abbrev pub act_now : Bma150 → Acts → Now
 act_now s (Acts.timed now t) = timed_now s now t
-act_now s (Acts.select on) = past_end
-act_now s (Acts.keeps f) = past_end
+act_now s _ = past_end
 
 unfoldable pub now_of : Bma150 → Call → Now
 now_of s c = act_now s (acts c)
@@ -109,12 +101,9 @@ write_resets s (Some (r, v)) = is_reset (write_kind s r v)
 
 -- a timed call ends hearing; a rise by the write that it makes
 unfoldable pub timed_leaves : Sensor → (now : Time) → Timed → Bool
-timed_leaves s now (Timed.Accelerations input) = false
 timed_leaves s now (Timed.Supply rail) = ltb rail 2400
-timed_leaves s now Timed.Due = false
 timed_leaves s now (Timed.Rising mosi) = write_resets (after_read_began (at_rise s now)) (spi_write (at_rise s now) mosi)
-timed_leaves s now Timed.Falling = false
-timed_leaves s now (Timed.Pins before after) = false
+timed_leaves s now _ = false
 
 -- a call does
 abbrev pub act_leaves : Sensor → Acts → Bool
@@ -135,8 +124,7 @@ left_frame s (c ∷ cs) = accepts s c && leaves_frame s c || left_frame (step s 
 -- the sensor sleeps before a timed call's effect, or with the sample of its moment
 abbrev pub act_sleeps : Sensor → Acts → Bool
 act_sleeps s (Acts.timed now t) = (sync_local_until s now false).sampling.asleep || (sampled s now).sampling.asleep
-act_sleeps s (Acts.select on) = false
-act_sleeps s (Acts.keeps f) = false
+act_sleeps s _ = false
 
 -- or after the call
 unfoldable pub sleeps_at : Bma150 → Call → Bool

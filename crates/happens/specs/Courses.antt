@@ -3,7 +3,6 @@ use Rattle.std.specs.Prelude.{◌≡◌, Bool, true, false, List, [], ◌∷◌,
 use Rattle.i2c.specs.declared.types.Levels.{Levels}
 use Rattle.calls.specs.declared.types.Timed.{Timed}
 use Rattle.calls.specs.declared.types.Call.{Call}
-use Rattle.bma150.specs.Called.{Acts, acts}
 use Rattle.calls.specs.Table.{same_levels}
 
 -- one call, by what it makes of the pins; none where it does not fit
@@ -28,21 +27,15 @@ spi selected clock = record { selected = selected; clock = clock }
 
 -- an edge of the clock: it falls where it is high and rises where it is low; no other timed call fits
 unfoldable pub spi_edge : SpiPins → Timed → Option SpiPins
-spi_edge p (Timed.Accelerations input) = None
-spi_edge p (Timed.Supply rail) = None
-spi_edge p Timed.Due = None
 spi_edge p (Timed.Rising mosi) = if p.clock then None else Some (spi p.selected true)
 spi_edge p Timed.Falling = if p.clock then Some (spi p.selected false) else None
-spi_edge p (Timed.Pins before after) = None
+spi_edge p _ = None
 
 -- a call of SPI: select or an edge; no other call fits
-abbrev pub spi_act : SpiPins → Acts → Option SpiPins
-spi_act p (Acts.timed now t) = spi_edge p t
-spi_act p (Acts.select on) = Some (spi on p.clock)
-spi_act p (Acts.keeps f) = None
-
 unfoldable pub spi_call : SpiPins → Call → Option SpiPins
-spi_call p c = spi_act p (acts c)
+spi_call p (Call.At now t) = spi_edge p t
+spi_call p (Call.Select on) = Some (spi on p.clock)
+spi_call p _ = None
 
 -- a list of SPI calls alone, from the pins at rest to the selected sensor with its clock high
 abbrev pub OverSpi : List Call → Type 0
@@ -54,23 +47,10 @@ OverSpi cs = course spi_call cs (Some (spi false true)) ≡ Some (spi true true)
 abbrev pub lines : (scl sda : Bool) → Levels
 lines scl sda = record { scl = scl; sda = sda }
 
--- a report begins at the levels that the lines have; no other timed call fits
-unfoldable pub i2c_report : Levels → Timed → Option Levels
-i2c_report l (Timed.Accelerations input) = None
-i2c_report l (Timed.Supply rail) = None
-i2c_report l Timed.Due = None
-i2c_report l (Timed.Rising mosi) = None
-i2c_report l Timed.Falling = None
-i2c_report l (Timed.Pins before after) = if same_levels l before then Some after else None
-
--- a call of I2C: a report; no other call fits
-abbrev pub i2c_act : Levels → Acts → Option Levels
-i2c_act l (Acts.timed now t) = i2c_report l t
-i2c_act l (Acts.select on) = None
-i2c_act l (Acts.keeps f) = None
-
+-- a call of I2C: a report that begins at the levels that the lines have; no other call fits
 unfoldable pub i2c_call : Levels → Call → Option Levels
-i2c_call l c = i2c_act l (acts c)
+i2c_call l (Call.At now (Timed.Pins before after)) = if same_levels l before then Some after else None
+i2c_call l _ = None
 
 -- a list of I2C reports alone, from both lines high to both low after a byte's ninth clock
 abbrev pub OverI2c : List Call → Type 0

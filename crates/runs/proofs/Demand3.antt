@@ -142,13 +142,7 @@ exists b p t q cs =
 act_last : (s : Bma150) (o : Acts) → (left_by s o).last ≡ moved s.last (act_does o).time
 unfolding moved timed_does
 act_last s (Acts.timed now (Timed.Accelerations input)) = refl
-act_last s (Acts.timed now (Timed.Supply rail)) = refl
-act_last s (Acts.timed now Timed.Due) = refl
-act_last s (Acts.timed now (Timed.Rising mosi)) = refl
-act_last s (Acts.timed now Timed.Falling) = refl
-act_last s (Acts.timed now (Timed.Pins before after)) = refl
-act_last s (Acts.select on) = refl
-act_last s (Acts.keeps f) = refl
+act_last s _ = refl
 
 last_of : (s : Bma150) (c : Call) → (leaves s c).last ≡ moved s.last (does c).time
 unfolding leaves does

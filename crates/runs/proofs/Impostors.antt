@@ -164,28 +164,16 @@ image_of_the_start = record {
 
 -- a write that completes stores nothing
 unfoldable pub at_due : Bma150 → Bma150 → Acts → Bma150
-at_due s t (Acts.timed now (Timed.Accelerations input)) = t
-at_due s t (Acts.timed now (Timed.Supply rail)) = t
 at_due s t (Acts.timed now Timed.Due) = unstored s t
-at_due s t (Acts.timed now (Timed.Rising mosi)) = t
-at_due s t (Acts.timed now Timed.Falling) = t
-at_due s t (Acts.timed now (Timed.Pins before after)) = t
-at_due s t (Acts.select on) = t
-at_due s t (Acts.keeps k) = t
+at_due s t _ = t
 
 abbrev pub completes_nothing : Wrong
 completes_nothing = leaving (λ s c. at_due s (step s c) (acts c))
 
 -- what a supply call leaves is altered so
 unfoldable pub at_supply : (Bma150 → Bma150 → Bma150) → Bma150 → Bma150 → Acts → Bma150
-at_supply f s t (Acts.timed now (Timed.Accelerations input)) = t
 at_supply f s t (Acts.timed now (Timed.Supply rail)) = f s t
-at_supply f s t (Acts.timed now Timed.Due) = t
-at_supply f s t (Acts.timed now (Timed.Rising mosi)) = t
-at_supply f s t (Acts.timed now Timed.Falling) = t
-at_supply f s t (Acts.timed now (Timed.Pins before after)) = t
-at_supply f s t (Acts.select on) = t
-at_supply f s t (Acts.keeps k) = t
+at_supply f s t _ = t
 
 -- a write that is cut leaves its cell as it was
 abbrev pub drops_cuts : Wrong

@@ -14,14 +14,9 @@ Word c = (now : Time) → (does c).time ≡ Some now → now.1 < 2 ^ 64
 -- of what a call acts on
 act_fits : (o : Acts) → ((now : Time) → (act_does o).time ≡ Some now → now.1 < 2 ^ 64) → ActFits o
 unfolding timed_does
-act_fits (Acts.timed now (Timed.Accelerations input)) w = tt
-act_fits (Acts.timed now (Timed.Supply rail)) w = tt
-act_fits (Acts.timed now Timed.Due) w = tt
 act_fits (Acts.timed now (Timed.Rising mosi)) w = w now refl
-act_fits (Acts.timed now Timed.Falling) w = tt
 act_fits (Acts.timed now (Timed.Pins before after)) w = w now refl
-act_fits (Acts.select on) w = tt
-act_fits (Acts.keeps f) w = tt
+act_fits _ w = tt
 
 -- whatever its kind and its other arguments
 pub fits : (c : Call) → Word c → Fits c

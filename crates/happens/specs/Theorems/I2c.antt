@@ -22,7 +22,7 @@ use Rattle.writes.specs.Write.{write_register}
 use Rattle.serial.specs.I2cPins.{byte_dropped}
 use Rattle.bma150.specs.declared.host.Bma150.{Bma150}
 use Rattle.book.specs.Lists.{Fractions, Start, started}
-use Rattle.happens.specs.Courses.{moved, course, lines, i2c_report, i2c_call, OverI2c}
+use Rattle.happens.specs.Courses.{moved, course, lines, i2c_call, OverI2c}
 use Rattle.happens.specs.Happens.{Wanted, Happens}
 use Rattle.happens.specs.Theorems.Going.{Goes, goes_on, course_append, all_fit}
 use Rattle.happens.specs.Theorems.Holding.{host, Held}
@@ -50,7 +50,7 @@ resting level = Some (lines false level)
 
 -- a report from the levels that the lines have
 reported : (now : Time) (c d : Bool) (m : Levels) → moved i2c_call (Some (lines c d)) (report now (lines c d) m) ≡ Some m
-unfolding moved i2c_call i2c_report
+unfolding moved i2c_call
 reported now c d m = rw (same_whole (lines c d) (lines c d) refl)
 
 clocks_course : (now : Time) (ds : List Bool) (level : Bool) → course i2c_call (clocks now level ds) (resting level) ≡ resting (last_level level ds)
@@ -74,7 +74,7 @@ pair_course : (now : Time) (r v : ℕ) → course i2c_call (pair_reports now r v
 pair_course now r v = course_append i2c_call (byte_reports now r) (byte_reports now v) (resting false) (resting false) (resting false) (byte_course now r) (byte_course now v)
 
 start_course : (now : Time) → course i2c_call (start_reports now) (Some (lines true true)) ≡ resting false
-unfolding course moved i2c_call i2c_report
+unfolding course moved i2c_call
 start_course now = refl
 
 over_i2c : (now : Time) (a x : ℕ) → OverI2c (i2c_writes now a x)

@@ -53,9 +53,9 @@ module _ {S : Type 0} (m : Machine S) (over : Bool) (b : Running S) where
   unfolding bounded_turn
   bounded_full h = rw (lt-ltb m.room (length b.text) h) (twice (ltb (length b.left) (needed_bytes m over b.left)) b)
 
-  pub bounded_turn : needed_bytes m over b.left ≤ length b.left → length b.text ≤ m.room → bounded_turn m over b ≡ turn m b
+  pub bounded_goes : needed_bytes m over b.left ≤ length b.left → length b.text ≤ m.room → bounded_turn m over b ≡ turn m b
   unfolding bounded_turn
-  bounded_turn h k = rw (le-ltb (length b.left) (needed_bytes m over b.left) h, le-ltb m.room (length b.text) k)
+  bounded_goes h k = rw (le-ltb (length b.left) (needed_bytes m over b.left) h, le-ltb m.room (length b.text) k)
 
   pub bounded_stopped : turn m b ≡ b → bounded_turn m over b ≡ b
   unfolding bounded_turn
@@ -66,7 +66,7 @@ module _ {S : Type 0} (m : Machine S) (over : Bool) (b : Running S) where
   by_tests laws true y e g = inl (bounded_short (ltb-true (length b.left) (needed_bytes m over b.left) e))
   by_tests laws false true e g = inl (bounded_full (ltb-true m.room (length b.text) g))
   by_tests laws false false e g =
-      rw (bounded_turn (ltb-false (length b.left) (needed_bytes m over b.left) e) (ltb-false m.room (length b.text) g)) (turn_falls laws b)
+      rw (bounded_goes (ltb-false (length b.left) (needed_bytes m over b.left) e) (ltb-false m.room (length b.text) g)) (turn_falls laws b)
 
   bounded_falls : Lawful m → (bounded_turn m over b ≡ b) ⊎ (length (bounded_turn m over b).left + 1 ≤ length b.left)
   bounded_falls laws = by_tests laws (ltb (length b.left) (needed_bytes m over b.left)) (ltb m.room (length b.text)) refl refl
@@ -96,7 +96,7 @@ module _ {S : Type 0} {m : Machine S} (laws : Lawful m) {over : Bool} {s : S} {i
       record {
         turns = suc b.turns;
         is = ap (bounded_turn m over) b.is
-            ∙ bounded_turn m over (running n left text false) l fits
+            ∙ bounded_goes m over (running n left text false) l fits
             ∙ turn_at m n left text some
             ∙ rw (sym ek);
         at = b.at + k.size;
@@ -130,7 +130,7 @@ module _ {S : Type 0} {m : Machine S} (laws : Lawful m) (over : Bool) (s : S) (l
       let some : 0 < length l = omega (arith, least_some laws over l) in
       let e : length l ≡ 1 + (length l - 1) = omega arith in
       let fits : length start.text ≤ m.room = omega arith in
-      let first : bounded_turn m over start ≡ turn m start = bounded_turn m over start h fits in
+      let first : bounded_turn m over start ≡ turn m start = bounded_goes m over start h fits in
       let less : length (bounded_turn m over start).left + 1 ≤ length l = rw (first, turn_at m s l [] some, length-drop) (omega (arith, laws.takes_some s l)) in
       let same : block m over s l ≡ iterate (length l - 1) (bounded_turn m over) (bounded_turn m over start) = ap (λ (k : ℕ). iterate k (bounded_turn m over) start) e ∙ iterate_split 1 (length l - 1) (bounded_turn m over) start in
       rw same (omega (arith, less, never_more (bounded_turn m over) (λ c. bounded_falls m over c laws) (length l - 1) (bounded_turn m over start)))
@@ -160,7 +160,7 @@ module _ {S : Type 0} {m : Machine S} (laws : Lawful m) where
     next q j u false false false e g w =
         let a : needed_bytes m over j ≤ length j = ltb-false (length j) (needed_bytes m over j) e in
         let some : 0 < length j = omega (arith, least_some laws over j) in
-        rw (bounded_turn m over (running q j u false) a (ltb-false m.room (length u) g), turn_at m q j u some)
+        rw (bounded_goes m over (running q j u false) a (ltb-false m.room (length u) g), turn_at m q j u some)
         (and_then w (one laws q j k some (same_command over q j k follows a)))
 
     goes : (n : ℕ) → So (iterate n (bounded_turn m over) (running s l [] false))
