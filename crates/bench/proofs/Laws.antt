@@ -29,15 +29,7 @@ called_is p q r = cc (p, q, r)
 -- a refused call adds nothing
 pub refused_adds : (why : Refusal) (a : Added) → Added.nothing ≡ unless_refused (R.refusal_number why) Added.nothing a
 unfolding unless_refused refusal_number
-refused_adds Refusal.ImageLength a = refl
-refused_adds Refusal.AxisRange a = refl
-refused_adds Refusal.TimeLimit a = refl
-refused_adds Refusal.TimeBack a = refl
-refused_adds Refusal.DueFirst a = refl
-refused_adds Refusal.NotDue a = refl
-refused_adds Refusal.Command a = refl
-refused_adds Refusal.PinJump a = refl
-refused_adds Refusal.ReservedCode a = refl
+refused_adds _ a = refl
 
 -- nor does an accepted one that adds nothing
 pub nothing_unless : (n : ℕ) → unless_refused n Added.nothing Added.nothing ≡ Added.nothing

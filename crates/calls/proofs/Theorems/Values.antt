@@ -21,15 +21,7 @@ outcome n = cond (eqb n 0) (Ok tt) (Err (refusal n))
 outcome_number : (o : Outcome) → outcome (number o) ≡ o
 unfolding number refusal_number
 outcome_number (Ok _) = refl
-outcome_number (Err Refusal.ImageLength) = refl
-outcome_number (Err Refusal.AxisRange) = refl
-outcome_number (Err Refusal.TimeLimit) = refl
-outcome_number (Err Refusal.TimeBack) = refl
-outcome_number (Err Refusal.DueFirst) = refl
-outcome_number (Err Refusal.NotDue) = refl
-outcome_number (Err Refusal.Command) = refl
-outcome_number (Err Refusal.PinJump) = refl
-outcome_number (Err Refusal.ReservedCode) = refl
+outcome_number (Err _) = refl
 
 pub number_injective : (a b : Outcome) → number a ≡ number b → a ≡ b
 number_injective a b p = sym (outcome_number a) ∙ ap outcome p ∙ outcome_number b
@@ -37,12 +29,4 @@ number_injective a b p = sym (outcome_number a) ∙ ap outcome p ∙ outcome_num
 -- no refusal has the number 0
 pub refused_number : (why : Refusal) → eqb (refusal_number why) 0 ≡ false
 unfolding refusal_number
-refused_number Refusal.ImageLength = refl
-refused_number Refusal.AxisRange = refl
-refused_number Refusal.TimeLimit = refl
-refused_number Refusal.TimeBack = refl
-refused_number Refusal.DueFirst = refl
-refused_number Refusal.NotDue = refl
-refused_number Refusal.Command = refl
-refused_number Refusal.PinJump = refl
-refused_number Refusal.ReservedCode = refl
+refused_number _ = refl
