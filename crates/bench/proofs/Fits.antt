@@ -13,6 +13,7 @@ use Rattle.bench.specs.Line.{Answer}
 
 refusal_fits : (why : Refusal) → length (word (refusal_number why)) ≤ 13
 unfolding word refusal_number
+refusal_fits Refusal.ImageLength = omega arith
 refusal_fits _ = omega arith
 
 pub word_fits : (a : Answer) → length (word (number a)) ≤ 13

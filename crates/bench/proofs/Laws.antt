@@ -29,6 +29,7 @@ called_is p q r = cc (p, q, r)
 -- a refused call adds nothing
 pub refused_adds : (why : Refusal) (a : Added) → Added.nothing ≡ unless_refused (R.refusal_number why) Added.nothing a
 unfolding unless_refused refusal_number
+refused_adds Refusal.ImageLength a = refl
 refused_adds _ a = refl
 
 -- nor does an accepted one that adds nothing

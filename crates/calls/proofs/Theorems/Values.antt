@@ -21,6 +21,7 @@ outcome n = cond (eqb n 0) (Ok tt) (Err (refusal n))
 outcome_number : (o : Outcome) → outcome (number o) ≡ o
 unfolding number refusal_number
 outcome_number (Ok _) = refl
+outcome_number (Err Refusal.ImageLength) = refl
 outcome_number (Err _) = refl
 
 pub number_injective : (a b : Outcome) → number a ≡ number b → a ≡ b
@@ -29,4 +30,5 @@ number_injective a b p = sym (outcome_number a) ∙ ap outcome p ∙ outcome_num
 -- no refusal has the number 0
 pub refused_number : (why : Refusal) → eqb (refusal_number why) 0 ≡ false
 unfolding refusal_number
+refused_number Refusal.ImageLength = refl
 refused_number _ = refl
