@@ -6,6 +6,8 @@ ghost use Rattle.calls.specs.Table as Table;
 ghost use Rattle.calls.specs.declared.types.Call.TheVariants as Call;
 ghost use Rattle.calls.specs.declared.types.Timed.TheVariants as Timed;
 ghost use Rattle.calls.specs.declared.types.Starting.TheVariants as Starting;
+ghost use Rattle.sensor.specs.Record.{with_lines};
+ghost use Rattle.serial.specs.I2cPins.{i2c_pins_at};
 ghost use Rattle.bma150.specs.Values as Vals;
 ghost use Rattle.bma150.specs.Called as C;
 
@@ -23,7 +25,7 @@ use serial::spi_edges::{falling_at, rising_at};
 use spi::types::Drive;
 use time::Time;
 use waits::due::at_deadline;
-use waits::supply::{set_input, set_supply, set_temperature, without_report};
+use waits::supply::{set_input, set_supply, set_temperature};
 use waits::types::{Report, Served};
 
 // The record, and the last accepted time. Only the calls reach them.
@@ -48,21 +50,45 @@ fn hand_out(buffer: &mut [u8], image: [u8; 19])
     buffer.copy_from_slice(&image);
 }
 
-// What a timed call does to the sensor at its moment.
-#[tactic(auto, unfolding(crate::specs::Called::effect))]
-fn effect(sensor: Sensor, now: Time, t: Timed) -> Served
-    ensures { result ≡ C.effect sensor now t }
+// The sensor that was served is kept, and its report handed on.
+fn keep(sensor: &mut Sensor, served: Served) -> Option<Report>
+    ensures sensor_value { sensor.new ≡ served.sensor }
+    ensures report_value { result ≡ served.report }
 {
+    *sensor = served.sensor;
+    served.report
+}
+
+// A pin report, and the levels that the next one begins with.
+fn pins(sensor: &mut Sensor, before: Levels, after: Levels, now: Time)
+    ensures { sensor.new ≡ with_lines (i2c_pins_at sensor.old before after now) after }
+{
+    i2c_pins_at(sensor, before, after, now);
+    *sensor = sensor.with_lines(after);
+}
+
+// What a timed call does to the sensor at its moment; the answer is its report.
+#[tactic(auto, unfolding(crate::specs::Called::effect))]
+fn effect(sensor: &mut Sensor, now: Time, t: Timed) -> Option<Report>
+    ensures sensor_value { sensor.new ≡ (C.effect sensor.old now t).sensor }
+    ensures report_value { result ≡ (C.effect sensor.old now t).report }
+{
+    let mut report = None;
     match t {
-        Timed::Accelerations(input) => without_report(set_input(sensor, input, now)),
-        Timed::Supply(rail) => set_supply(sensor, rail, now),
-        Timed::Due => at_deadline(sensor, now),
-        Timed::Rising(mosi) => without_report(rising_at(sensor, mosi, now)),
-        Timed::Falling => without_report(falling_at(sensor, now)),
-        Timed::Pins(before, after) => {
-            without_report(i2c_pins_at(sensor, before, after, now).with_lines(after))
+        Timed::Accelerations(input) => *sensor = set_input(*sensor, input, now),
+        Timed::Supply(rail) => {
+            let served = set_supply(*sensor, rail, now);
+            report = keep(sensor, served);
         }
+        Timed::Due => {
+            let served = at_deadline(*sensor, now);
+            report = keep(sensor, served);
+        }
+        Timed::Rising(mosi) => rising_at(sensor, mosi, now),
+        Timed::Falling => falling_at(sensor, now),
+        Timed::Pins(before, after) => pins(sensor, before, after, now),
     }
+    report
 }
 
 // A start by either call. Its three parameters are what the two calls have: a struct would be made there to be taken apart here.
@@ -124,13 +150,12 @@ impl Bma150 {
                 answer: Err(why),
             };
         }
-        let after = effect(sync_local_until(self.sensor, now, false), now, t);
+        let mut sensor = self.sensor;
+        sync_local_until(&mut sensor, now, false);
+        let report = effect(&mut sensor, now, t);
         Replied {
-            sensor: Bma150 {
-                sensor: after.sensor,
-                last: now,
-            },
-            answer: Ok(after.report),
+            sensor: Bma150 { sensor, last: now },
+            answer: Ok(report),
         }
     }
 

@@ -92,13 +92,12 @@ fn edges_until(sensor: Sensor, end: Time, inclusive: bool) -> u64
 }
 
 #[tactic(auto, unfolding(crate::specs::Samples::caught_up))]
-fn caught_up(sensor: Sensor, end: Time, n: u64) -> Sensor
-    ensures { result ≡ S.caught_up sensor end n }
+fn catch_up(sensor: &mut Sensor, end: Time, n: u64)
+    ensures { sensor.new ≡ S.caught_up sensor.old end n }
 {
-    if n == 0 {
-        return sensor;
+    if n != 0 {
+        *sensor = after_edges(*sensor, n).automatic_control(end, false, false);
     }
-    after_edges(sensor, n).automatic_control(end, false, false)
 }
 
 #[tactic(auto, unfolding(crate::specs::Samples::samples_on_demand))]
@@ -108,12 +107,13 @@ fn samples_on_demand(sensor: Sensor) -> bool
     !sensor.automatic() && samples_run(sensor)
 }
 
+// Over a lent sensor, since most calls leave it as it is: by value it would be moved in and out for nothing.
 #[tactic(auto, unfolding(crate::specs::Samples::sync_local_until))]
-pub fn sync_local_until(sensor: Sensor, end: Time, inclusive: bool) -> Sensor
-    ensures { result ≡ S.sync_local_until sensor end inclusive }
+pub fn sync_local_until(sensor: &mut Sensor, end: Time, inclusive: bool)
+    ensures { sensor.new ≡ S.sync_local_until sensor.old end inclusive }
 {
-    if samples_on_demand(sensor) {
-        return caught_up(sensor, end, edges_until(sensor, end, inclusive));
+    if samples_on_demand(*sensor) {
+        let n = edges_until(*sensor, end, inclusive);
+        catch_up(sensor, end, n);
     }
-    sensor
 }
