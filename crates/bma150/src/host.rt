@@ -8,6 +8,7 @@ ghost use Rattle.calls.specs.declared.types.Timed.TheVariants as Timed;
 ghost use Rattle.calls.specs.declared.types.Starting.TheVariants as Starting;
 ghost use Rattle.sensor.specs.Record.{with_lines};
 ghost use Rattle.serial.specs.I2cPins.{i2c_pins_at};
+ghost use Rattle.waits.specs.Supply.{set_input, set_supply};
 ghost use Rattle.bma150.specs.Values as Vals;
 ghost use Rattle.bma150.specs.Called as C;
 
@@ -26,7 +27,7 @@ use spi::types::Drive;
 use time::Time;
 use waits::due::at_deadline;
 use waits::supply::{set_input, set_supply, set_temperature};
-use waits::types::{Report, Served};
+use waits::types::Report;
 
 // The record, and the last accepted time. Only the calls reach them.
 #[derive(Clone, Copy)]
@@ -50,11 +51,18 @@ fn hand_out(buffer: &mut [u8], image: [u8; 19])
     buffer.copy_from_slice(&image);
 }
 
-// The sensor that was served is kept, and its report handed on.
-fn keep(sensor: &mut Sensor, served: Served) -> Option<Report>
-    ensures sensor_value { sensor.new ≡ served.sensor }
-    ensures report_value { result ≡ served.report }
+// Cases of `effect`, apart from it: a function clears room at its start for each record that it holds by value.
+fn accelerate(sensor: &mut Sensor, input: Acceleration, now: Time)
+    ensures { sensor.new ≡ set_input sensor.old input now }
 {
+    *sensor = set_input(*sensor, input, now);
+}
+
+fn supply(sensor: &mut Sensor, rail: u16, now: Time) -> Option<Report>
+    ensures sensor_value { sensor.new ≡ (set_supply sensor.old rail now).sensor }
+    ensures report_value { result ≡ (set_supply sensor.old rail now).report }
+{
+    let served = set_supply(*sensor, rail, now);
     *sensor = served.sensor;
     served.report
 }
@@ -73,22 +81,15 @@ fn effect(sensor: &mut Sensor, now: Time, t: Timed) -> Option<Report>
     ensures sensor_value { sensor.new ≡ (C.effect sensor.old now t).sensor }
     ensures report_value { result ≡ (C.effect sensor.old now t).report }
 {
-    let mut report = None;
     match t {
-        Timed::Accelerations(input) => *sensor = set_input(*sensor, input, now),
-        Timed::Supply(rail) => {
-            let served = set_supply(*sensor, rail, now);
-            report = keep(sensor, served);
-        }
-        Timed::Due => {
-            let served = at_deadline(*sensor, now);
-            report = keep(sensor, served);
-        }
+        Timed::Accelerations(input) => accelerate(sensor, input, now),
+        Timed::Supply(rail) => return supply(sensor, rail, now),
+        Timed::Due => return at_deadline(sensor, now),
         Timed::Rising(mosi) => rising_at(sensor, mosi, now),
         Timed::Falling => falling_at(sensor, now),
         Timed::Pins(before, after) => pins(sensor, before, after, now),
     }
-    report
+    None
 }
 
 // A start by either call. Its three parameters are what the two calls have: a struct would be made there to be taken apart here.
@@ -130,10 +131,10 @@ impl Bma150 {
     }
 
     // Whether a call is accepted, or why it is refused.
-    fn asked(self, call: Call) -> Result<(), Refusal>
-        ensures { Table.number result ≡ C.number self call }
+    fn asked(&self, call: Call) -> Result<(), Refusal>
+        ensures { Table.number result ≡ C.number self.now call }
     {
-        let due = interaction_deadline(self.sensor);
+        let due = interaction_deadline(&self.sensor);
         refusal(self.last, due, self.sensor.lines(), call)
     }
 
@@ -267,6 +268,6 @@ impl Bma150 {
     pub fn next_due(self) -> Option<Time>
         ensures { moment result ≡ C.next_due self }
     {
-        interaction_deadline(self.sensor)
+        interaction_deadline(&self.sensor)
     }
 }

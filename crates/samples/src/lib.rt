@@ -1,8 +1,9 @@
 // Next due, and samples up to a moment.
 #![tactic(auto)]
 
-ghost use Rattle.std.specs.Prelude.{◌≡◌};
+ghost use Rattle.std.specs.Prelude.{◌≡◌, false};
 ghost use Rattle.sensor.specs.Record.{automatic};
+ghost use Rattle.sensor.specs.Mode.{automatic_control};
 ghost use Rattle.samples.specs.Samples as S;
 
 use control::lengths::needs;
@@ -46,14 +47,14 @@ fn sample_due(sensor: Sensor) -> Option<Time>
 
 // Next due.
 #[tactic(auto, unfolding(crate::specs::Samples::next_deadline, crate::specs::Samples::write_end))]
-pub fn interaction_deadline(sensor: Sensor) -> Option<Time>
-    ensures { result ≡ S.interaction_deadline sensor }
+pub fn interaction_deadline(sensor: &Sensor) -> Option<Time>
+    ensures { result ≡ S.interaction_deadline sensor.now }
 {
     if sensor.is_off() {
         return None;
     }
     let write = sensor.writing.map(|w| w.cycle.deadline());
-    sensor.deadlines.earliest(sample_due(sensor), write)
+    sensor.deadlines.earliest(sample_due(*sensor), write)
 }
 
 // Advances the sample clock by n edges. The three parts that samples change come back by name: with `registers: after.registers` the
@@ -91,12 +92,19 @@ fn edges_until(sensor: Sensor, end: Time, inclusive: bool) -> u64
     sensor.sampling.clock.edges_before(limit(end, inclusive))
 }
 
+// Apart from its test: a function clears room at its start for each record that it holds by value.
+fn take_samples(sensor: &mut Sensor, end: Time, n: u64)
+    ensures { sensor.new ≡ automatic_control (S.after_edges sensor.old n) end false false }
+{
+    *sensor = after_edges(*sensor, n).automatic_control(end, false, false);
+}
+
 #[tactic(auto, unfolding(crate::specs::Samples::caught_up))]
 fn catch_up(sensor: &mut Sensor, end: Time, n: u64)
     ensures { sensor.new ≡ S.caught_up sensor.old end n }
 {
     if n != 0 {
-        *sensor = after_edges(*sensor, n).automatic_control(end, false, false);
+        take_samples(sensor, end, n);
     }
 }
 

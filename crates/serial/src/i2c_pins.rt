@@ -1,6 +1,6 @@
 // An I2C report (`i2c_pins_at`): the engine's step, and what it asks for done.
 ghost use Rattle.std.specs.Prelude.{◌≡◌};
-ghost use Rattle.sensor.specs.RegisterReads.{prepare_read};
+ghost use Rattle.sensor.specs.RegisterReads.{prepare_read, read_began};
 ghost use Rattle.writes.specs.Write.{write_register};
 ghost use Rattle.serial.specs.I2cPins as Z;
 
@@ -51,6 +51,12 @@ fn launch(sensor: &mut Sensor, r: u8)
     sensor.i2c = sensor.i2c.launched(ones_for(sent));
 }
 
+fn note_read(sensor: &mut Sensor, r: u8)
+    ensures { sensor.new ≡ read_began sensor.old r }
+{
+    *sensor = sensor.read_began(r);
+}
+
 #[tactic(auto, unfolding(crate::specs::I2cPins::acted))]
 fn act(sensor: &mut Sensor, action: Option<Action>, now: Time)
     ensures { sensor.new ≡ Z.acted action sensor.old now }
@@ -60,7 +66,7 @@ fn act(sensor: &mut Sensor, action: Option<Action>, now: Time)
         Some(Action::Drop) => drop_byte(sensor),
         Some(Action::Write(r, v)) => write(sensor, r, v, now),
         Some(Action::Launch(r)) => launch(sensor, r),
-        Some(Action::ReadBegan(r)) => *sensor = sensor.read_began(r),
+        Some(Action::ReadBegan(r)) => note_read(sensor, r),
     }
 }
 
