@@ -8,7 +8,7 @@ ghost use Rattle.calls.specs.declared.types.Timed.TheVariants as Timed;
 ghost use Rattle.calls.specs.declared.types.Starting.TheVariants as Starting;
 ghost use Rattle.sensor.specs.Record.{with_lines};
 ghost use Rattle.serial.specs.I2cPins.{i2c_pins_at};
-ghost use Rattle.waits.specs.Supply.{set_input, set_supply};
+ghost use Rattle.waits.specs.Supply.{set_supply};
 ghost use Rattle.bma150.specs.Values as Vals;
 ghost use Rattle.bma150.specs.Called as C;
 
@@ -51,13 +51,7 @@ fn hand_out(buffer: &mut [u8], image: [u8; 19])
     buffer.copy_from_slice(&image);
 }
 
-// Cases of `effect`, apart from it: a function clears room at its start for each record that it holds by value.
-fn accelerate(sensor: &mut Sensor, input: Acceleration, now: Time)
-    ensures { sensor.new ≡ set_input sensor.old input now }
-{
-    *sensor = set_input(*sensor, input, now);
-}
-
+// A case of `effect`, as `pins` is, apart from it: a function clears room at its start for each record that it holds by value.
 fn supply(sensor: &mut Sensor, rail: u16, now: Time) -> Option<Report>
     ensures sensor_value { sensor.new ≡ (set_supply sensor.old rail now).sensor }
     ensures report_value { result ≡ (set_supply sensor.old rail now).report }
@@ -82,7 +76,7 @@ fn effect(sensor: &mut Sensor, now: Time, t: Timed) -> Option<Report>
     ensures report_value { result ≡ (C.effect sensor.old now t).report }
 {
     match t {
-        Timed::Accelerations(input) => accelerate(sensor, input, now),
+        Timed::Accelerations(input) => set_input(sensor, input, now),
         Timed::Supply(rail) => return supply(sensor, rail, now),
         Timed::Due => return at_deadline(sensor, now),
         Timed::Rising(mosi) => rising_at(sensor, mosi, now),
@@ -140,7 +134,7 @@ impl Bma150 {
 
     // Any timed call, taken as a value. It stands beside the six that go through it: those are the calls by name, of which four answer no report.
     #[tactic(auto, unfolding(crate::specs::Values::report_values, crate::specs::Values::report_of, crate::specs::Called::reported, crate::specs::Called::leaves, crate::specs::Called::adds, calls::specs::Table::unless_refused, calls::specs::Table::number), using(calls::proofs::Theorems::Values::refused_number, crate::proofs::Laws::reports_added))]
-    pub fn timed(self, now: Time, t: Timed) -> Replied<Option<Report>>
+    pub fn timed(mut self, now: Time, t: Timed) -> Replied<Option<Report>>
         ensures outcome_value { Table.number result.answer ≡ (C.called self (Call.At now t)).number }
         ensures sensor_value { result.sensor ≡ (C.called self (Call.At now t)).sensor }
         ensures report_value { Vals.report_values (Vals.report_of result.answer) ≡ C.reported (C.called self (Call.At now t)).adds }
@@ -151,11 +145,11 @@ impl Bma150 {
                 answer: Err(why),
             };
         }
-        let mut sensor = self.sensor;
-        sync_local_until(&mut sensor, now, false);
-        let report = effect(&mut sensor, now, t);
+        sync_local_until(&mut self.sensor, now, false);
+        let report = effect(&mut self.sensor, now, t);
+        self.last = now;
         Replied {
-            sensor: Bma150 { sensor, last: now },
+            sensor: self,
             answer: Ok(report),
         }
     }

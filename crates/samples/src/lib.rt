@@ -57,17 +57,17 @@ pub fn interaction_deadline(sensor: &Sensor) -> Option<Time>
     sensor.deadlines.earliest(sample_due(*sensor), write)
 }
 
-// Advances the sample clock by n edges. The three parts that samples change come back by name: with `registers: after.registers` the
-// check has no proof, since it does not cover an array that is handed from a field straight to another.
-pub fn after_edges(sensor: Sensor, n: u64) -> Sensor
-    ensures { result ≡ S.after_edges sensor n }
+// Advances the sample clock by n edges. The three parts that samples change come back by name: with `sensor.registers = after.registers`
+// the check has no proof, since it does not cover an array that is handed from a field straight to another.
+pub fn after_edges(sensor: &mut Sensor, n: u64)
+    ensures { sensor.new ≡ S.after_edges sensor.old n }
 {
     let Sensor {
         registers,
         sampling,
         interrupts,
         ..
-    } = sensor;
+    } = *sensor;
     let before = Acquisition {
         registers,
         sampling,
@@ -78,12 +78,9 @@ pub fn after_edges(sensor: Sensor, n: u64) -> Sensor
         sampling,
         interrupts,
     } = before.samples(n, sensor.kept.input, needs());
-    Sensor {
-        registers,
-        sampling,
-        interrupts,
-        ..sensor
-    }
+    sensor.registers = registers;
+    sensor.sampling = sampling;
+    sensor.interrupts = interrupts;
 }
 
 fn edges_until(sensor: Sensor, end: Time, inclusive: bool) -> u64
@@ -96,7 +93,8 @@ fn edges_until(sensor: Sensor, end: Time, inclusive: bool) -> u64
 fn take_samples(sensor: &mut Sensor, end: Time, n: u64)
     ensures { sensor.new ≡ automatic_control (S.after_edges sensor.old n) end false false }
 {
-    *sensor = after_edges(*sensor, n).automatic_control(end, false, false);
+    after_edges(sensor, n);
+    *sensor = sensor.automatic_control(end, false, false);
 }
 
 #[tactic(auto, unfolding(crate::specs::Samples::caught_up))]

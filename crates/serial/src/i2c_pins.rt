@@ -5,7 +5,7 @@ ghost use Rattle.writes.specs.Write.{write_register};
 ghost use Rattle.serial.specs.I2cPins as Z;
 
 use i2c::edges::edge;
-use i2c::types::{Action, Edge, Levels, Step};
+use i2c::types::{Action, Edge, Levels};
 use samples::sync_local_until;
 use sensor::types::{Fetched, Sensor};
 use time::Time;
@@ -76,9 +76,9 @@ fn i2c_pins(sensor: &mut Sensor, e: Edge, now: Time)
 {
     if i2c_listens(*sensor) {
         let sent = ones_for(sensor.frame.tx);
-        let Step { state, action } = sensor.i2c.stepped(e, sensor.is_quiet(), sent);
-        sensor.i2c = state;
-        act(sensor, action, now);
+        let t = sensor.i2c.stepped(e, sensor.is_quiet(), sent);
+        sensor.i2c = t.state;
+        act(sensor, t.action, now);
     } else {
         sensor.i2c = sensor.i2c.abort();
     }

@@ -29,8 +29,8 @@ fn end_waits(sensor: &mut Sensor, now: Time)
     sensor.deadlines.quiet = unless_at(sensor.deadlines.quiet, now);
 }
 
-// Apart from its test, as `complete`, `load_image` and `sample` are from theirs: a function clears room at its start for each record that it
-// holds by value.
+// Apart from its test, as `complete` and `load_image` are from theirs: a function clears room at its start for each record that it holds by
+// value.
 fn acquire(sensor: &mut Sensor, now: Time)
     ensures { sensor.new ≡ start_acquisition sensor.old now (from_millis 1) }
 {
@@ -99,18 +99,12 @@ fn sample_due_now(sensor: Sensor, now: Time) -> bool
     is_at(next_sample(sensor), now)
 }
 
-fn sample(sensor: &mut Sensor)
-    ensures { sensor.new ≡ after_edges sensor.old 1 }
-{
-    *sensor = after_edges(*sensor, 1);
-}
-
 #[tactic(auto, unfolding(crate::specs::Due::sample_ended))]
 fn end_sample(sensor: &mut Sensor, now: Time)
     ensures { sensor.new ≡ D.sample_ended sensor.old now }
 {
     if sample_due_now(*sensor, now) {
-        sample(sensor);
+        after_edges(sensor, 1);
     }
 }
 
