@@ -7,7 +7,6 @@ use Rattle.calls.specs.declared.types.Starting.{Starting}
 use Rattle.calls.specs.declared.types.Refusal.{Refusal}
 use Rattle.calls.specs.Table as R
 use Rattle.bma150.specs.declared.host.Bma150.{Bma150}
-use Rattle.bma150.specs.declared.types.Replied.{Replied}
 use Rattle.bma150.specs.Values.{drive_letter, report_values}
 use Rattle.bma150.specs.Called.{Added, of_view, Called, called, start_number, after_start, interrupt, output, data_output, next_due}
 use Rattle.bench.specs.declared.types.Extra.{Extra}
@@ -76,9 +75,6 @@ answer_adds (Err why) = Added.nothing
 abbrev pub unless_refused : ℕ → Added → Added
 unless_refused n a = R.unless_refused n Added.nothing a
 
--- the reply to a command
-abbrev pub Reply : Type 0
-Reply = Replied (Option Extra)
-
-abbrev pub replied : Reply → Called
-replied r = record { number = R.number r.answer; sensor = r.sensor; adds = answer_adds r.answer }
+-- the sensor that a command left and its answer
+abbrev pub left : Bma150 → Answer → Called
+left s a = record { number = R.number a; sensor = s; adds = answer_adds a }

@@ -67,12 +67,11 @@ pub fn run(
     while !stop && out.len() <= ROOM && is_whole(left, over) {
         let b = left[0];
         let command = decode(left);
-        let reply = serve(sensor, command, left, lent);
+        let answer = serve(&mut sensor, command, left, lent);
         let mut line = Line::new();
-        line.reply(trace, b, reply);
+        line.reply(trace, b, &sensor, answer);
         // There is room for it.
         let _ = out.try_extend_from_slice(line.text());
-        sensor = reply.sensor;
         left = &left[size(command)..];
         stop = is_bad(command);
         lent = turned(trace, lent, b);

@@ -9,7 +9,7 @@ ghost use Rattle.bench.specs.Text as T;
 ghost use Rattle.bench.specs.Line as L;
 
 use crate::text::Line;
-use crate::types::{Extra, Reply};
+use crate::types::{Answer, Extra};
 use bma150::host::Bma150;
 use calls::types::Refusal;
 use sensor::types::Mark;
@@ -54,8 +54,8 @@ fn letter(d: Drive) -> u8
 
 // Interrupt, four-wire output, data pin.
 #[tactic(auto, unfolding(crate::specs::Line::pins))]
-fn pins(s: Bma150) -> [u8; 6]
-    ensures { result ≡ L.pins s }
+fn pins(s: &Bma150) -> [u8; 6]
+    ensures { result ≡ L.pins s.now }
 {
     let interrupt = bit(s.interrupt());
     let output = letter(s.output());
@@ -66,7 +66,7 @@ fn pins(s: Bma150) -> [u8; 6]
 impl Line {
     // `ok`, or why the command is refused.
     #[tactic(auto, unfolding(crate::specs::Text::word, calls::specs::Table::number))]
-    fn answer(&mut self, answer: Result<Option<Extra>, Refusal>)
+    fn answer(&mut self, answer: Answer)
         ensures { self.new ≡ T.appended self.old (T.word (R.number answer)) }
     {
         match answer {
@@ -139,7 +139,7 @@ impl Line {
 
     // What a command adds, if it is accepted and adds anything.
     #[tactic(auto, unfolding(crate::specs::Line::extra_adds, crate::specs::Line::added_text, bma150::specs::Called::of_view), using(crate::proofs::Appended::both, crate::proofs::Appended::none, crate::proofs::Fits::report_fits, crate::proofs::Fits::viewed_fits))]
-    fn added(&mut self, answer: Result<Option<Extra>, Refusal>)
+    fn added(&mut self, answer: Answer)
         ensures text { self.new ≡ T.appended self.old (L.added_text (L.answer_adds answer)) }
         ensures fits { length (L.added_text (L.answer_adds answer)) ≤ 39 }
     {
@@ -170,8 +170,8 @@ impl Line {
     }
 
     #[tactic(auto, unfolding(crate::specs::Text::due_text), using(crate::proofs::Appended::both, crate::proofs::Appended::none))]
-    fn due(&mut self, trace: bool, s: Bma150)
-        ensures { self.new ≡ T.appended self.old (T.due_text trace (K.next_due s)) }
+    fn due(&mut self, trace: bool, s: &Bma150)
+        ensures { self.new ≡ T.appended self.old (T.due_text trace (K.next_due s.now)) }
     {
         if trace {
             self.word(b" due ");
@@ -179,18 +179,18 @@ impl Line {
         }
     }
 
-    // The line of a command that begins with b.
+    // The line of a command that begins with b and left this sensor and this answer.
     #[tactic(auto, unfolding(crate::specs::Line::line))]
-    pub(crate) fn reply(&mut self, trace: bool, b: u8, reply: Reply)
+    pub(crate) fn reply(&mut self, trace: bool, b: u8, sensor: &Bma150, answer: Answer)
         requires { self.old ≡ [] }
-        ensures { self.new ≡ L.line trace b (L.replied reply) }
+        ensures { self.new ≡ L.line trace b (L.left sensor.now answer) }
     {
         self.hex(b);
         self.put(b' ');
-        self.answer(reply.answer);
-        self.word(&pins(reply.sensor));
-        self.added(reply.answer);
-        self.due(trace, reply.sensor);
+        self.answer(answer);
+        self.word(&pins(sensor));
+        self.added(answer);
+        self.due(trace, sensor);
         self.put(b'\n');
     }
 }

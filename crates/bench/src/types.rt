@@ -1,5 +1,5 @@
 // What a command leaves and answers, before it is written.
-use bma150::types::Replied;
+use calls::types::Refusal;
 use sensor::types::Viewed;
 use waits::types::Report;
 
@@ -11,5 +11,5 @@ pub enum Extra {
     Image([u8; 19]),
 }
 
-// The reply to a command: its answer is what it adds, if it adds anything.
-pub type Reply = Replied<Option<Extra>>;
+// The answer to a command: what it adds, if it adds anything, or why it is refused.
+pub type Answer = Result<Option<Extra>, Refusal>;

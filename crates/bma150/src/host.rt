@@ -6,6 +6,9 @@ ghost use Rattle.calls.specs.Table as Table;
 ghost use Rattle.calls.specs.declared.types.Call.TheVariants as Call;
 ghost use Rattle.calls.specs.declared.types.Timed.TheVariants as Timed;
 ghost use Rattle.calls.specs.declared.types.Starting.TheVariants as Starting;
+ghost use Rattle.sensor.specs.Record.{with_lines};
+ghost use Rattle.serial.specs.I2cPins.{i2c_pins_at};
+ghost use Rattle.waits.specs.Supply.{set_supply};
 ghost use Rattle.bma150.specs.Values as Vals;
 ghost use Rattle.bma150.specs.Called as C;
 
@@ -23,8 +26,8 @@ use serial::spi_edges::{falling_at, rising_at};
 use spi::types::Drive;
 use time::Time;
 use waits::due::at_deadline;
-use waits::supply::{set_input, set_supply, set_temperature, without_report};
-use waits::types::{Report, Served};
+use waits::supply::{set_input, set_supply, set_temperature};
+use waits::types::Report;
 
 // The record, and the last accepted time. Only the calls reach them.
 #[derive(Clone, Copy)]
@@ -48,21 +51,39 @@ fn hand_out(buffer: &mut [u8], image: [u8; 19])
     buffer.copy_from_slice(&image);
 }
 
-// What a timed call does to the sensor at its moment.
+// A case of `effect`, as `pins` is, apart from it: a function clears room at its start for each record that it holds by value.
+fn supply(sensor: &mut Sensor, rail: u16, now: Time) -> Option<Report>
+    ensures sensor_value { sensor.new ≡ (set_supply sensor.old rail now).sensor }
+    ensures report_value { result ≡ (set_supply sensor.old rail now).report }
+{
+    let served = set_supply(*sensor, rail, now);
+    *sensor = served.sensor;
+    served.report
+}
+
+// A pin report, and the levels that the next one begins with.
+fn pins(sensor: &mut Sensor, before: Levels, after: Levels, now: Time)
+    ensures { sensor.new ≡ with_lines (i2c_pins_at sensor.old before after now) after }
+{
+    i2c_pins_at(sensor, before, after, now);
+    *sensor = sensor.with_lines(after);
+}
+
+// What a timed call does to the sensor at its moment; the answer is its report.
 #[tactic(auto, unfolding(crate::specs::Called::effect))]
-fn effect(sensor: Sensor, now: Time, t: Timed) -> Served
-    ensures { result ≡ C.effect sensor now t }
+fn effect(sensor: &mut Sensor, now: Time, t: Timed) -> Option<Report>
+    ensures sensor_value { sensor.new ≡ (C.effect sensor.old now t).sensor }
+    ensures report_value { result ≡ (C.effect sensor.old now t).report }
 {
     match t {
-        Timed::Accelerations(input) => without_report(set_input(sensor, input, now)),
-        Timed::Supply(rail) => set_supply(sensor, rail, now),
-        Timed::Due => at_deadline(sensor, now),
-        Timed::Rising(mosi) => without_report(rising_at(sensor, mosi, now)),
-        Timed::Falling => without_report(falling_at(sensor, now)),
-        Timed::Pins(before, after) => {
-            without_report(i2c_pins_at(sensor, before, after, now).with_lines(after))
-        }
+        Timed::Accelerations(input) => set_input(sensor, input, now),
+        Timed::Supply(rail) => return supply(sensor, rail, now),
+        Timed::Due => return at_deadline(sensor, now),
+        Timed::Rising(mosi) => rising_at(sensor, mosi, now),
+        Timed::Falling => falling_at(sensor, now),
+        Timed::Pins(before, after) => pins(sensor, before, after, now),
     }
+    None
 }
 
 // A start by either call. Its three parameters are what the two calls have: a struct would be made there to be taken apart here.
@@ -104,16 +125,16 @@ impl Bma150 {
     }
 
     // Whether a call is accepted, or why it is refused.
-    fn asked(self, call: Call) -> Result<(), Refusal>
-        ensures { Table.number result ≡ C.number self call }
+    fn asked(&self, call: Call) -> Result<(), Refusal>
+        ensures { Table.number result ≡ C.number self.now call }
     {
-        let due = interaction_deadline(self.sensor);
+        let due = interaction_deadline(&self.sensor);
         refusal(self.last, due, self.sensor.lines(), call)
     }
 
     // Any timed call, taken as a value. It stands beside the six that go through it: those are the calls by name, of which four answer no report.
     #[tactic(auto, unfolding(crate::specs::Values::report_values, crate::specs::Values::report_of, crate::specs::Called::reported, crate::specs::Called::leaves, crate::specs::Called::adds, calls::specs::Table::unless_refused, calls::specs::Table::number), using(calls::proofs::Theorems::Values::refused_number, crate::proofs::Laws::reports_added))]
-    pub fn timed(self, now: Time, t: Timed) -> Replied<Option<Report>>
+    pub fn timed(mut self, now: Time, t: Timed) -> Replied<Option<Report>>
         ensures outcome_value { Table.number result.answer ≡ (C.called self (Call.At now t)).number }
         ensures sensor_value { result.sensor ≡ (C.called self (Call.At now t)).sensor }
         ensures report_value { Vals.report_values (Vals.report_of result.answer) ≡ C.reported (C.called self (Call.At now t)).adds }
@@ -124,13 +145,12 @@ impl Bma150 {
                 answer: Err(why),
             };
         }
-        let after = effect(sync_local_until(self.sensor, now, false), now, t);
+        sync_local_until(&mut self.sensor, now, false);
+        let report = effect(&mut self.sensor, now, t);
+        self.last = now;
         Replied {
-            sensor: Bma150 {
-                sensor: after.sensor,
-                last: now,
-            },
-            answer: Ok(after.report),
+            sensor: self,
+            answer: Ok(report),
         }
     }
 
@@ -242,6 +262,6 @@ impl Bma150 {
     pub fn next_due(self) -> Option<Time>
         ensures { moment result ≡ C.next_due self }
     {
-        interaction_deadline(self.sensor)
+        interaction_deadline(&self.sensor)
     }
 }

@@ -1,8 +1,9 @@
 // Next due, and samples up to a moment.
 #![tactic(auto)]
 
-ghost use Rattle.std.specs.Prelude.{◌≡◌};
+ghost use Rattle.std.specs.Prelude.{◌≡◌, false};
 ghost use Rattle.sensor.specs.Record.{automatic};
+ghost use Rattle.sensor.specs.Mode.{automatic_control};
 ghost use Rattle.samples.specs.Samples as S;
 
 use control::lengths::needs;
@@ -46,27 +47,27 @@ fn sample_due(sensor: Sensor) -> Option<Time>
 
 // Next due.
 #[tactic(auto, unfolding(crate::specs::Samples::next_deadline, crate::specs::Samples::write_end))]
-pub fn interaction_deadline(sensor: Sensor) -> Option<Time>
-    ensures { result ≡ S.interaction_deadline sensor }
+pub fn interaction_deadline(sensor: &Sensor) -> Option<Time>
+    ensures { result ≡ S.interaction_deadline sensor.now }
 {
     if sensor.is_off() {
         return None;
     }
     let write = sensor.writing.map(|w| w.cycle.deadline());
-    sensor.deadlines.earliest(sample_due(sensor), write)
+    sensor.deadlines.earliest(sample_due(*sensor), write)
 }
 
-// Advances the sample clock by n edges. The three parts that samples change come back by name: with `registers: after.registers` the
-// check has no proof, since it does not cover an array that is handed from a field straight to another.
-pub fn after_edges(sensor: Sensor, n: u64) -> Sensor
-    ensures { result ≡ S.after_edges sensor n }
+// Advances the sample clock by n edges. The three parts that samples change come back by name: with `sensor.registers = after.registers`
+// the check has no proof, since it does not cover an array that is handed from a field straight to another.
+pub fn after_edges(sensor: &mut Sensor, n: u64)
+    ensures { sensor.new ≡ S.after_edges sensor.old n }
 {
     let Sensor {
         registers,
         sampling,
         interrupts,
         ..
-    } = sensor;
+    } = *sensor;
     let before = Acquisition {
         registers,
         sampling,
@@ -77,12 +78,9 @@ pub fn after_edges(sensor: Sensor, n: u64) -> Sensor
         sampling,
         interrupts,
     } = before.samples(n, sensor.kept.input, needs());
-    Sensor {
-        registers,
-        sampling,
-        interrupts,
-        ..sensor
-    }
+    sensor.registers = registers;
+    sensor.sampling = sampling;
+    sensor.interrupts = interrupts;
 }
 
 fn edges_until(sensor: Sensor, end: Time, inclusive: bool) -> u64
@@ -91,14 +89,21 @@ fn edges_until(sensor: Sensor, end: Time, inclusive: bool) -> u64
     sensor.sampling.clock.edges_before(limit(end, inclusive))
 }
 
-#[tactic(auto, unfolding(crate::specs::Samples::caught_up))]
-fn caught_up(sensor: Sensor, end: Time, n: u64) -> Sensor
-    ensures { result ≡ S.caught_up sensor end n }
+// Apart from its test: a function clears room at its start for each record that it holds by value.
+fn take_samples(sensor: &mut Sensor, end: Time, n: u64)
+    ensures { sensor.new ≡ automatic_control (S.after_edges sensor.old n) end false false }
 {
-    if n == 0 {
-        return sensor;
+    after_edges(sensor, n);
+    *sensor = sensor.automatic_control(end, false, false);
+}
+
+#[tactic(auto, unfolding(crate::specs::Samples::caught_up))]
+fn catch_up(sensor: &mut Sensor, end: Time, n: u64)
+    ensures { sensor.new ≡ S.caught_up sensor.old end n }
+{
+    if n != 0 {
+        take_samples(sensor, end, n);
     }
-    after_edges(sensor, n).automatic_control(end, false, false)
 }
 
 #[tactic(auto, unfolding(crate::specs::Samples::samples_on_demand))]
@@ -108,12 +113,13 @@ fn samples_on_demand(sensor: Sensor) -> bool
     !sensor.automatic() && samples_run(sensor)
 }
 
+// Over a lent sensor, since most calls leave it as it is: by value it would be moved in and out for nothing.
 #[tactic(auto, unfolding(crate::specs::Samples::sync_local_until))]
-pub fn sync_local_until(sensor: Sensor, end: Time, inclusive: bool) -> Sensor
-    ensures { result ≡ S.sync_local_until sensor end inclusive }
+pub fn sync_local_until(sensor: &mut Sensor, end: Time, inclusive: bool)
+    ensures { sensor.new ≡ S.sync_local_until sensor.old end inclusive }
 {
-    if samples_on_demand(sensor) {
-        return caught_up(sensor, end, edges_until(sensor, end, inclusive));
+    if samples_on_demand(*sensor) {
+        let n = edges_until(*sensor, end, inclusive);
+        catch_up(sensor, end, n);
     }
-    sensor
 }

@@ -75,8 +75,8 @@ impl Sensor {
         self.automatic().then(|| now.plus(self.pause_of()))
     }
 
-    pub fn pause(mut self, now: Time) -> Sensor
-        ensures { result ≡ C.pause self now }
+    fn fall_asleep(&mut self, now: Time)
+        ensures { self.new ≡ C.pause self.old now }
     {
         let end = self.pause_end(now);
         self.frame = self.frame.released();
@@ -84,6 +84,12 @@ impl Sensor {
         self.sampling.asleep = true;
         self.deadlines.wake = None;
         self.deadlines.pause = end;
+    }
+
+    pub fn pause(mut self, now: Time) -> Sensor
+        ensures { result ≡ C.pause self now }
+    {
+        self.fall_asleep(now);
         self
     }
 
@@ -111,25 +117,23 @@ impl Sensor {
     }
 
     #[tactic(auto, unfolding(crate::specs::Mode::pause_restarted, deadlines::specs::Deadlines::is_set))]
-    fn pause_restarted(self, now: Time) -> Sensor
-        ensures { result ≡ C.pause_restarted self now }
+    fn restart_pause(&mut self, now: Time)
+        ensures { self.new ≡ C.pause_restarted self.old now }
     {
         if pauses_again(self.sampling.asleep, self.deadlines.pause.is_some()) {
-            return self.pause(now);
+            self.fall_asleep(now);
         }
-        self
     }
 
     #[tactic(auto, unfolding(crate::specs::Mode::interrupt_held))]
-    fn interrupt_held(mut self, now: Time, was_criterion: bool) -> Sensor
-        ensures { result ≡ C.interrupt_held self now was_criterion }
+    fn hold_interrupt(&mut self, now: Time, was_criterion: bool)
+        ensures { self.new ≡ C.interrupt_held self.old now was_criterion }
     {
         let latch = has(self.registers[OPERATION], LATCH_INT);
         if holds(was_criterion, latch, self.criterion()) {
             let end = now.plus(Duration::from_micros(330));
             self.deadlines.irq_hold = Some(end);
         }
-        self
     }
 
     fn verifying(self) -> bool
@@ -161,34 +165,33 @@ impl Sensor {
     }
 
     #[tactic(auto, unfolding(crate::specs::Mode::pause_if_idle))]
-    fn pause_if_idle(self, now: Time, verify: bool) -> Sensor
-        ensures { result ≡ C.pause_if_idle self now verify }
+    fn pause_if_idle(&mut self, now: Time, verify: bool)
+        ensures { self.new ≡ C.pause_if_idle self.old now verify }
     {
         if self.may_sleep(verify) {
-            return self.pause(now);
+            self.fall_asleep(now);
         }
-        self
     }
 
-    fn automatic_off(mut self) -> Sensor
-        ensures { result ≡ C.automatic_off self }
+    fn leave_automatic(&mut self)
+        ensures { self.new ≡ C.automatic_off self.old }
     {
         self.deadlines.irq_hold = None;
         self.deadlines.pause = None;
-        self
     }
 
     #[tactic(auto, unfolding(crate::specs::Mode::automatic_control))]
-    pub fn automatic_control(self, now: Time, was_criterion: bool, verify: bool) -> Sensor
+    pub fn automatic_control(mut self, now: Time, was_criterion: bool, verify: bool) -> Sensor
         ensures { result ≡ C.automatic_control self now was_criterion verify }
     {
         if self.automatic() {
-            return self
-                .pause_restarted(now)
-                .interrupt_held(now, was_criterion)
-                .pause_if_idle(now, verify);
+            self.restart_pause(now);
+            self.hold_interrupt(now, was_criterion);
+            self.pause_if_idle(now, verify);
+        } else {
+            self.leave_automatic();
         }
-        self.automatic_off()
+        self
     }
 
     fn reloaded(mut self) -> Sensor

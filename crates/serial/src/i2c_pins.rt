@@ -1,9 +1,11 @@
 // An I2C report (`i2c_pins_at`): the engine's step, and what it asks for done.
 ghost use Rattle.std.specs.Prelude.{◌≡◌};
+ghost use Rattle.sensor.specs.RegisterReads.{prepare_read, read_began};
+ghost use Rattle.writes.specs.Write.{write_register};
 ghost use Rattle.serial.specs.I2cPins as Z;
 
 use i2c::edges::edge;
-use i2c::types::{Action, Edge, Levels, Step};
+use i2c::types::{Action, Edge, Levels};
 use samples::sync_local_until;
 use sensor::types::{Fetched, Sensor};
 use time::Time;
@@ -23,77 +25,79 @@ pub fn ones_for(tx: Option<u8>) -> u8
     tx.unwrap_or(0xff)
 }
 
-fn byte_dropped(mut sensor: Sensor) -> Sensor
-    ensures { result ≡ Z.byte_dropped sensor }
+fn drop_byte(sensor: &mut Sensor)
+    ensures { sensor.new ≡ Z.byte_dropped sensor.old }
 {
     sensor.frame = sensor.frame.sending(None);
     sensor.reads = sensor.reads.drop();
-    sensor
 }
 
-fn acknowledge_begun(mut sensor: Sensor) -> Sensor
-    ensures { result ≡ Z.acknowledge_begun sensor }
+fn write(sensor: &mut Sensor, r: u8, v: u8, now: Time)
+    ensures { sensor.new ≡ Z.acknowledge_begun (write_register sensor.old r v now) }
 {
+    *sensor = write_register(*sensor, r, v, now);
     sensor.i2c = sensor.i2c.written(sensor.is_quiet());
-    sensor
 }
 
-fn launched(f: Fetched) -> Sensor
-    ensures { result ≡ Z.launched f }
+fn launch(sensor: &mut Sensor, r: u8)
+    ensures { sensor.new ≡ Z.launched (prepare_read sensor.old r) }
 {
-    let mut s = f.sensor;
-    s.frame = s.frame.sending(f.sent);
-    s.i2c = s.i2c.launched(ones_for(f.sent));
-    s
+    let Fetched {
+        sensor: fetched,
+        sent,
+    } = sensor.prepare_read(r);
+    *sensor = fetched;
+    sensor.frame = sensor.frame.sending(sent);
+    sensor.i2c = sensor.i2c.launched(ones_for(sent));
+}
+
+fn note_read(sensor: &mut Sensor, r: u8)
+    ensures { sensor.new ≡ read_began sensor.old r }
+{
+    *sensor = sensor.read_began(r);
 }
 
 #[tactic(auto, unfolding(crate::specs::I2cPins::acted))]
-fn acted(sensor: Sensor, action: Option<Action>, now: Time) -> Sensor
-    ensures { result ≡ Z.acted action sensor now }
+fn act(sensor: &mut Sensor, action: Option<Action>, now: Time)
+    ensures { sensor.new ≡ Z.acted action sensor.old now }
 {
     match action {
-        None => sensor,
-        Some(Action::Drop) => byte_dropped(sensor),
-        Some(Action::Write(r, v)) => acknowledge_begun(write_register(sensor, r, v, now)),
-        Some(Action::Launch(r)) => launched(sensor.prepare_read(r)),
-        Some(Action::ReadBegan(r)) => sensor.read_began(r),
+        None => {}
+        Some(Action::Drop) => drop_byte(sensor),
+        Some(Action::Write(r, v)) => write(sensor, r, v, now),
+        Some(Action::Launch(r)) => launch(sensor, r),
+        Some(Action::ReadBegan(r)) => note_read(sensor, r),
     }
-}
-
-fn stepped(mut sensor: Sensor, t: Step, now: Time) -> Sensor
-    ensures { result ≡ Z.stepped t sensor now }
-{
-    sensor.i2c = t.state;
-    acted(sensor, t.action, now)
 }
 
 #[tactic(auto, unfolding(crate::specs::I2cPins::i2c_pins))]
-fn i2c_pins(mut sensor: Sensor, e: Edge, now: Time) -> Sensor
-    ensures { result ≡ Z.i2c_pins sensor e now }
+fn i2c_pins(sensor: &mut Sensor, e: Edge, now: Time)
+    ensures { sensor.new ≡ Z.i2c_pins sensor.old e now }
 {
-    if i2c_listens(sensor) {
+    if i2c_listens(*sensor) {
         let sent = ones_for(sensor.frame.tx);
         let t = sensor.i2c.stepped(e, sensor.is_quiet(), sent);
-        return stepped(sensor, t, now);
+        sensor.i2c = t.state;
+        act(sensor, t.action, now);
+    } else {
+        sensor.i2c = sensor.i2c.abort();
     }
-    sensor.i2c = sensor.i2c.abort();
-    sensor
 }
 
-// As `rise_synced` and `fall_synced` of SPI: each asks another thing of its edge, and all that they share is a call.
+// As `sync_rise` and `sync_fall` of SPI: each asks another thing of its edge, and all that they share is a call.
 #[tactic(auto, unfolding(crate::specs::I2cPins::pins_synced))]
-pub fn pins_synced(sensor: Sensor, e: Edge, now: Time) -> Sensor
-    ensures { result ≡ Z.pins_synced sensor e now }
+fn sync_pins(sensor: &mut Sensor, e: Edge, now: Time)
+    ensures { sensor.new ≡ Z.pins_synced sensor.old e now }
 {
-    if i2c_listens(sensor) && sensor.i2c.consumes(e) && !sensor.is_quiet() {
-        return sync_local_until(sensor, now, true);
+    if i2c_listens(*sensor) && sensor.i2c.consumes(e) && !sensor.is_quiet() {
+        sync_local_until(sensor, now, true);
     }
-    sensor
 }
 
-pub fn i2c_pins_at(sensor: Sensor, before: Levels, after: Levels, now: Time) -> Sensor
-    ensures { result ≡ Z.i2c_pins_at sensor before after now }
+pub fn i2c_pins_at(sensor: &mut Sensor, before: Levels, after: Levels, now: Time)
+    ensures { sensor.new ≡ Z.i2c_pins_at sensor.old before after now }
 {
     let e = edge(before, after);
-    i2c_pins(pins_synced(sensor, e, now), e, now)
+    sync_pins(sensor, e, now);
+    i2c_pins(sensor, e, now);
 }

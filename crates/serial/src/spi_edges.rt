@@ -1,5 +1,6 @@
 // SPI edges (`rising_at`, `falling_at`).
 ghost use Rattle.std.specs.Prelude.{◌≡◌};
+ghost use Rattle.sensor.specs.RegisterReads.{prepare_read};
 ghost use Rattle.serial.specs.SpiEdges as Z;
 
 use samples::sync_local_until;
@@ -8,69 +9,76 @@ use spi::types::{Clocked, Shift, Taken};
 use time::Time;
 use writes::write::write_register;
 
-fn showing(f: Fetched) -> Sensor
-    ensures { result ≡ Z.showing f }
+fn show(sensor: &mut Sensor, a: u8)
+    ensures { sensor.new ≡ Z.showing (prepare_read sensor.old a) }
 {
-    let mut s = f.sensor;
-    s.frame = s.frame.shifted(f.sent);
-    s
+    let Fetched {
+        sensor: fetched,
+        sent,
+    } = sensor.prepare_read(a);
+    *sensor = fetched;
+    sensor.frame = sensor.frame.shifted(sent);
 }
 
 #[tactic(auto, unfolding(crate::specs::SpiEdges::moved))]
-fn moved(mut sensor: Sensor, shift: Shift) -> Sensor
-    ensures { result ≡ Z.moved shift sensor }
+fn move_output(sensor: &mut Sensor, shift: Shift)
+    ensures { sensor.new ≡ Z.moved shift sensor.old }
 {
     match shift {
-        Shift::Stay => sensor,
-        Shift::Fetch(a) => showing(sensor.prepare_read(a)),
-        Shift::Next => {
-            sensor.frame = sensor.frame.shifted(sensor.frame.tx);
-            sensor
-        }
+        Shift::Stay => {}
+        Shift::Fetch(a) => show(sensor, a),
+        Shift::Next => sensor.frame = sensor.frame.shifted(sensor.frame.tx),
     }
 }
 
-fn shift_output(sensor: Sensor, at: Clocked) -> Sensor
-    ensures { result ≡ Z.shift_output sensor at }
+fn shift_output(sensor: &mut Sensor, at: Clocked)
+    ensures { sensor.new ≡ Z.shift_output sensor.old at }
 {
-    moved(sensor, sensor.frame.shifts(at, sensor.four_wire()))
+    let shift = sensor.frame.shifts(at, sensor.four_wire());
+    move_output(sensor, shift);
 }
 
 #[tactic(auto, unfolding(crate::specs::SpiEdges::first_bit_taken))]
-fn first_bit_taken(sensor: Sensor, a: Option<u8>) -> Sensor
-    ensures { result ≡ Z.first_bit_taken a sensor }
+fn note_read(sensor: &mut Sensor, a: Option<u8>)
+    ensures { sensor.new ≡ Z.first_bit_taken a sensor.old }
 {
-    a.map_or(sensor, |r| sensor.read_began(r))
+    if let Some(r) = a {
+        *sensor = sensor.read_began(r);
+    }
 }
 
 #[tactic(auto, unfolding(crate::specs::SpiEdges::write_done))]
-fn write_done(sensor: Sensor, write: Option<(u8, u8)>, now: Time) -> Sensor
-    ensures { result ≡ Z.write_done write sensor now }
+fn write(sensor: &mut Sensor, write: Option<(u8, u8)>, now: Time)
+    ensures { sensor.new ≡ Z.write_done write sensor.old now }
 {
-    write.map_or(sensor, |(a, v)| write_register(sensor, a, v, now))
+    if let Some((a, v)) = write {
+        *sensor = write_register(*sensor, a, v, now);
+    }
 }
 
-fn bit_done(mut sensor: Sensor, t: Taken, now: Time) -> Sensor
-    ensures { result ≡ Z.bit_done t sensor now }
+fn end_bit(sensor: &mut Sensor, t: Taken, now: Time)
+    ensures { sensor.new ≡ Z.bit_done t sensor.old now }
 {
     sensor.frame = t.frame;
-    write_done(sensor, t.write, now)
+    write(sensor, t.write, now);
 }
 
 // The bit and its moment stay two: each goes on to one function from here, and a record of them would be made only to be taken apart.
-fn bit_taken(sensor: Sensor, mosi: bool, now: Time) -> Sensor
-    ensures { result ≡ Z.bit_taken sensor mosi now }
+fn take_bit(sensor: &mut Sensor, mosi: bool, now: Time)
+    ensures { sensor.new ≡ Z.bit_taken sensor.old mosi now }
 {
-    let s = first_bit_taken(sensor, sensor.frame.first_bit());
-    let taken = s.frame.take_bit(mosi, s.four_wire());
-    shift_output(bit_done(s, taken, now), Clocked::Rise)
+    let first = sensor.frame.first_bit();
+    note_read(sensor, first);
+    let taken = sensor.frame.take_bit(mosi, sensor.four_wire());
+    end_bit(sensor, taken, now);
+    shift_output(sensor, Clocked::Rise);
 }
 
-fn turned(mut sensor: Sensor) -> Sensor
-    ensures { result ≡ Z.turned sensor }
+fn turn(sensor: &mut Sensor)
+    ensures { sensor.new ≡ Z.turned sensor.old }
 {
     sensor.frame = sensor.frame.turned();
-    shift_output(sensor, Clocked::Turnaround)
+    shift_output(sensor, Clocked::Turnaround);
 }
 
 #[tactic(auto, unfolding(crate::specs::SpiEdges::spi_listens))]
@@ -81,56 +89,56 @@ pub fn spi_listens(sensor: Sensor) -> bool
 }
 
 #[tactic(auto, unfolding(crate::specs::SpiEdges::rising_effect))]
-fn rising_effect(sensor: Sensor, mosi: bool, now: Time) -> Sensor
-    ensures { result ≡ Z.rising_effect sensor mosi now }
+fn rise(sensor: &mut Sensor, mosi: bool, now: Time)
+    ensures { sensor.new ≡ Z.rising_effect sensor.old mosi now }
 {
-    if !spi_listens(sensor) {
-        return sensor;
+    if !spi_listens(*sensor) {
+        return;
     }
     if sensor.frame.turnaround {
-        return turned(sensor);
+        turn(sensor);
+    } else {
+        take_bit(sensor, mosi, now);
     }
-    bit_taken(sensor, mosi, now)
 }
 
 #[tactic(auto, unfolding(crate::specs::SpiEdges::rise_synced))]
-pub fn rise_synced(sensor: Sensor, now: Time) -> Sensor
-    ensures { result ≡ Z.rise_synced sensor now }
+fn sync_rise(sensor: &mut Sensor, now: Time)
+    ensures { sensor.new ≡ Z.rise_synced sensor.old now }
 {
-    if spi_listens(sensor) && sensor.frame.consumes_at_rise() {
-        return sync_local_until(sensor, now, true);
+    if spi_listens(*sensor) && sensor.frame.consumes_at_rise() {
+        sync_local_until(sensor, now, true);
     }
-    sensor
 }
 
-pub fn rising_at(sensor: Sensor, mosi: bool, now: Time) -> Sensor
-    ensures { result ≡ Z.rising_at sensor mosi now }
+pub fn rising_at(sensor: &mut Sensor, mosi: bool, now: Time)
+    ensures { sensor.new ≡ Z.rising_at sensor.old mosi now }
 {
-    rising_effect(rise_synced(sensor, now), mosi, now)
+    sync_rise(sensor, now);
+    rise(sensor, mosi, now);
 }
 
 #[tactic(auto, unfolding(crate::specs::SpiEdges::fall_synced))]
-fn fall_synced(sensor: Sensor, now: Time) -> Sensor
-    ensures { result ≡ Z.fall_synced sensor now }
+fn sync_fall(sensor: &mut Sensor, now: Time)
+    ensures { sensor.new ≡ Z.fall_synced sensor.old now }
 {
-    if spi_listens(sensor) && sensor.frame.consumes_at_fall(sensor.four_wire()) {
-        return sync_local_until(sensor, now, true);
+    if spi_listens(*sensor) && sensor.frame.consumes_at_fall(sensor.four_wire()) {
+        sync_local_until(sensor, now, true);
     }
-    sensor
 }
 
 #[tactic(auto, unfolding(crate::specs::SpiEdges::falling_effect))]
-fn falling_effect(sensor: Sensor) -> Sensor
-    ensures { result ≡ Z.falling_effect sensor }
+fn fall(sensor: &mut Sensor)
+    ensures { sensor.new ≡ Z.falling_effect sensor.old }
 {
-    if sensor.serial_not_ready() || sensor.is_off() {
-        return sensor;
+    if !sensor.serial_not_ready() && !sensor.is_off() {
+        shift_output(sensor, Clocked::Fall);
     }
-    shift_output(sensor, Clocked::Fall)
 }
 
-pub fn falling_at(sensor: Sensor, now: Time) -> Sensor
-    ensures { result ≡ Z.falling_at sensor now }
+pub fn falling_at(sensor: &mut Sensor, now: Time)
+    ensures { sensor.new ≡ Z.falling_at sensor.old now }
 {
-    falling_effect(fall_synced(sensor, now))
+    sync_fall(sensor, now);
+    fall(sensor);
 }

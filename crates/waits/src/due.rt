@@ -1,9 +1,12 @@
 // A due moment is served.
 ghost use Rattle.std.specs.Prelude.{◌≡◌};
+ghost use Rattle.time.specs.Time.{from_millis};
+ghost use Rattle.sensor.specs.Mode.{start_acquisition};
+ghost use Rattle.samples.specs.Samples.{after_edges};
 ghost use Rattle.waits.specs.Due as D;
 
-use crate::supply::{without_report, write_over};
-use crate::types::{Report, Served};
+use crate::supply::write_over;
+use crate::types::Report;
 use deadlines::{is_at, unless_at};
 use registers::fields::{CONTROL, UPDATE_IMAGE};
 use samples::{after_edges, next_sample};
@@ -18,75 +21,75 @@ fn verifies(sample: bool, scan: bool, hold_ended: bool) -> bool
     sample && scan || hold_ended
 }
 
-fn waits_ended(mut sensor: Sensor, now: Time) -> Sensor
-    ensures { result ≡ D.waits_ended sensor now }
+fn end_waits(sensor: &mut Sensor, now: Time)
+    ensures { sensor.new ≡ D.waits_ended sensor.old now }
 {
     sensor.deadlines.serial_ready = unless_at(sensor.deadlines.serial_ready, now);
     sensor.deadlines.irq_hold = unless_at(sensor.deadlines.irq_hold, now);
     sensor.deadlines.quiet = unless_at(sensor.deadlines.quiet, now);
-    sensor
+}
+
+// Apart from its test, as `complete` and `load_image` are from theirs: a function clears room at its start for each record that it holds by
+// value.
+fn acquire(sensor: &mut Sensor, now: Time)
+    ensures { sensor.new ≡ start_acquisition sensor.old now (from_millis 1) }
+{
+    *sensor = sensor.start_acquisition(now, Duration::from_millis(1));
 }
 
 #[tactic(auto, unfolding(crate::specs::Due::pause_ended))]
-fn pause_ended(sensor: Sensor, now: Time) -> Sensor
-    ensures { result ≡ D.pause_ended sensor now }
+fn end_pause(sensor: &mut Sensor, now: Time)
+    ensures { sensor.new ≡ D.pause_ended sensor.old now }
 {
     if is_at(sensor.deadlines.pause, now) {
-        return sensor.start_acquisition(now, Duration::from_millis(1));
+        acquire(sensor, now);
     }
-    sensor
 }
 
-fn completed(sensor: Sensor, w: StoredWrite) -> Served
-    ensures { result ≡ D.completed sensor w.address w.value }
+fn complete(sensor: &mut Sensor, w: StoredWrite) -> Option<Report>
+    ensures sensor_value { sensor.new ≡ (D.completed sensor.old w.address w.value).sensor }
+    ensures report_value { result ≡ (D.completed sensor.old w.address w.value).report }
 {
-    Served {
-        sensor: write_over(sensor, w.address, w.value).copy_image(),
-        report: Some(Report::Completed(w.address, w.value)),
-    }
+    *sensor = write_over(*sensor, w.address, w.value).copy_image();
+    Some(Report::Completed(w.address, w.value))
 }
 
 #[tactic(auto, unfolding(crate::specs::Due::write_ended))]
-fn write_ended(sensor: Sensor, now: Time) -> Served
-    ensures { result ≡ D.write_ended sensor.writing sensor now }
+fn end_write(sensor: &mut Sensor, now: Time) -> Option<Report>
+    ensures sensor_value { sensor.new ≡ (D.write_ended sensor.old.writing sensor.old now).sensor }
+    ensures report_value { result ≡ (D.write_ended sensor.old.writing sensor.old now).report }
 {
-    let Some(w) = sensor.writing else {
-        return without_report(sensor);
-    };
-    if w.cycle.deadline() == now {
-        return completed(sensor, w);
+    match sensor.writing {
+        Some(w) if w.cycle.deadline() == now => complete(sensor, w),
+        _ => None,
     }
-    without_report(sensor)
 }
 
-fn image_loaded(sensor: Sensor) -> Sensor
-    ensures { result ≡ D.image_loaded sensor }
+fn load_image(sensor: &mut Sensor)
+    ensures { sensor.new ≡ D.image_loaded sensor.old }
 {
-    let mut s = sensor.copy_image();
-    s.deadlines.image = None;
-    s.registers[CONTROL] &= !(1 << UPDATE_IMAGE);
-    s
+    *sensor = sensor.copy_image();
+    sensor.deadlines.image = None;
+    sensor.registers[CONTROL] &= !(1 << UPDATE_IMAGE);
 }
 
 #[tactic(auto, unfolding(crate::specs::Due::image_ended))]
-fn image_ended(sensor: Sensor, now: Time) -> Sensor
-    ensures { result ≡ D.image_ended sensor now }
+fn end_image(sensor: &mut Sensor, now: Time)
+    ensures { sensor.new ≡ D.image_ended sensor.old now }
 {
     if is_at(sensor.deadlines.image, now) {
-        return image_loaded(sensor);
+        load_image(sensor);
     }
-    sensor
 }
 
 #[tactic(auto, unfolding(crate::specs::Due::wake_ended))]
-fn wake_ended(mut sensor: Sensor, now: Time) -> Sensor
-    ensures { result ≡ D.wake_ended sensor now }
+fn end_wake(sensor: &mut Sensor, now: Time)
+    ensures { sensor.new ≡ D.wake_ended sensor.old now }
 {
     if is_at(sensor.deadlines.wake, now) {
         sensor.deadlines.wake = None;
         sensor.sampling.clock = Clock::new(now);
     }
-    sensor
 }
 
 // Whether a sample is at this moment.
@@ -97,13 +100,12 @@ fn sample_due_now(sensor: Sensor, now: Time) -> bool
 }
 
 #[tactic(auto, unfolding(crate::specs::Due::sample_ended))]
-fn sample_ended(sensor: Sensor, now: Time) -> Sensor
-    ensures { result ≡ D.sample_ended sensor now }
+fn end_sample(sensor: &mut Sensor, now: Time)
+    ensures { sensor.new ≡ D.sample_ended sensor.old now }
 {
-    if sample_due_now(sensor, now) {
-        return after_edges(sensor, 1);
+    if sample_due_now(*sensor, now) {
+        after_edges(sensor, 1);
     }
-    sensor
 }
 
 // Whether the clock's last edge was the last of a scan.
@@ -113,15 +115,16 @@ fn scan_complete(sensor: Sensor) -> bool
     sensor.sampling.clock.ordinal % 4 == 0
 }
 
-fn waits_served(sensor: Sensor, now: Time) -> Served
-    ensures { result ≡ D.waits_served sensor now }
+fn serve_waits(sensor: &mut Sensor, now: Time) -> Option<Report>
+    ensures sensor_value { sensor.new ≡ (D.waits_served sensor.old now).sensor }
+    ensures report_value { result ≡ (D.waits_served sensor.old now).report }
 {
-    let p = pause_ended(waits_ended(sensor, now), now);
-    let w = write_ended(p, now);
-    Served {
-        sensor: wake_ended(image_ended(w.sensor, now), now),
-        ..w
-    }
+    end_waits(sensor, now);
+    end_pause(sensor, now);
+    let report = end_write(sensor, now);
+    end_image(sensor, now);
+    end_wake(sensor, now);
+    report
 }
 
 fn hold_ends_now(sensor: Sensor, now: Time) -> bool
@@ -131,22 +134,22 @@ fn hold_ends_now(sensor: Sensor, now: Time) -> bool
 }
 
 // The sample at this moment, and automatic mode after it.
-fn sample_served(sensor: Sensor, now: Time, was_criterion: bool, hold_ended: bool) -> Sensor
-    ensures { result ≡ D.sample_served sensor now was_criterion hold_ended }
+fn serve_sample(sensor: &mut Sensor, now: Time, was_criterion: bool, hold_ended: bool)
+    ensures { sensor.new ≡ D.sample_served sensor.old now was_criterion hold_ended }
 {
-    let s = sample_ended(sensor, now);
-    let verify = verifies(sample_due_now(sensor, now), scan_complete(s), hold_ended);
-    s.automatic_control(now, was_criterion, verify)
+    let due = sample_due_now(*sensor, now);
+    end_sample(sensor, now);
+    let verify = verifies(due, scan_complete(*sensor), hold_ended);
+    *sensor = sensor.automatic_control(now, was_criterion, verify);
 }
 
-pub fn at_deadline(sensor: Sensor, now: Time) -> Served
-    ensures { result ≡ D.at_deadline sensor now }
+pub fn at_deadline(sensor: &mut Sensor, now: Time) -> Option<Report>
+    ensures sensor_value { sensor.new ≡ (D.at_deadline sensor.old now).sensor }
+    ensures report_value { result ≡ (D.at_deadline sensor.old now).report }
 {
     let was = sensor.criterion();
-    let hold = hold_ends_now(sensor, now);
-    let w = waits_served(sensor, now);
-    Served {
-        sensor: sample_served(w.sensor, now, was, hold),
-        ..w
-    }
+    let hold = hold_ends_now(*sensor, now);
+    let report = serve_waits(sensor, now);
+    serve_sample(sensor, now, was, hold);
+    report
 }

@@ -154,12 +154,11 @@ fn turned(sensor: Sensor, input: Acceleration, now: Time) -> Sampling
         .turn(now, sensor.kept.input.acceleration, input)
 }
 
-pub fn set_input(mut sensor: Sensor, input: Acceleration, now: Time) -> Sensor
-    ensures { result ≡ Sup.set_input sensor input now }
+pub fn set_input(sensor: &mut Sensor, input: Acceleration, now: Time)
+    ensures { sensor.new ≡ Sup.set_input sensor.old input now }
 {
-    sensor.sampling = turned(sensor, input, now);
+    sensor.sampling = turned(*sensor, input, now);
     sensor.kept.input.acceleration = input;
-    sensor
 }
 
 pub fn set_temperature(mut sensor: Sensor, millicelsius: i32) -> Sensor

@@ -44,7 +44,7 @@ loop-stop-preserved c =
     let e = c.try_extend_from_slice.ensures in
     let lines = extended c.try_extend_from_slice.result (e.variant.1 fits) e.ok ∙ ap (λ m. ran.out.items ++ m) (c.text.ensures.value ∙ c.reply.ensures) in
     let going_on = going c.args.trace c.loop-stop-test.true ran.invariant in
-    let done = went c.args.trace c.serve-reply.result going_on (sym c.if-is_whole.ensures) room c.decode-command.ensures c.serve-reply.ensures c.size.ensures c.is_bad-stop.ensures in
+    let done = went c.args.trace _ c.serve-answer.result going_on (sym c.if-is_whole.ensures) room c.decode-command.ensures c.serve-answer.ensures c.size.ensures c.is_bad-stop.ensures in
     rw (take_rest l c.size.result, lines) done
 
 pub returns : goal.returns

@@ -10,7 +10,7 @@ use Rattle.commands.specs.Decode.{decoded, image, size, is_bad}
 use Rattle.commands.proofs.Theorems.More.{size_pos, size_fits}
 use Rattle.bma150.specs.declared.host.Bma150.{Bma150}
 use Rattle.bma150.specs.Called.{Called}
-use Rattle.bench.specs.Line.{commanded, line, Reply, replied}
+use Rattle.bench.specs.Line.{commanded, line, Answer, left}
 use Rattle.bench.specs.Run.{took, room, bench}
 use Rattle.bench.specs.Block.{is_whole, block, answer}
 use Rattle.bench.specs.Theorems.Lawful.{lawful}
@@ -55,11 +55,11 @@ took_is trace n l c k ec ek =
     ap (took trace (get_or l 0 0) c) ek ∙ ap (λ (x : Command). took trace (get_or l 0 0) x (commanded n x (image l))) ec
 
 module _ (trace : Bool) {over : Bool} {s : Bma150} {input : List ℕ} {n : Bma150} {l text : List ℕ} where
-  pub went : {c : Command} (r : Reply) {k : ℕ} {z : Bool} → Upto (bench trace) over s input n l text false → is_whole over l ≡ true → length text ≤ room
-      → c ≡ decoded l → replied r ≡ commanded n c (image l) → k ≡ size c → z ≡ is_bad c
-      → Upto (bench trace) over s input r.sensor (drop k l) (text ++ line trace (get_or l 0 0) (replied r)) z
-  went {c} r {k} {z} b h fits ec er ek ez =
-      rw (ek, ez) (T.went (lawful trace) (took trace (get_or l 0 0) c (replied r)) b (enough trace over l h) fits (took_is trace n l c (replied r) ec er))
+  pub went : {c : Command} (t : Bma150) (a : Answer) {k : ℕ} {z : Bool} → Upto (bench trace) over s input n l text false → is_whole over l ≡ true → length text ≤ room
+      → c ≡ decoded l → left t a ≡ commanded n c (image l) → k ≡ size c → z ≡ is_bad c
+      → Upto (bench trace) over s input t (drop k l) (text ++ line trace (get_or l 0 0) (left t a)) z
+  went {c} t a {k} {z} b h fits ec er ek ez =
+      rw (ek, ez) (T.went (lawful trace) (took trace (get_or l 0 0) c (left t a)) b (enough trace over l h) fits (took_is trace n l c (left t a) ec er))
 
   -- it has not stopped
   pub going : {z : Bool} → z ≡ false → Upto (bench trace) over s input n l text z → Upto (bench trace) over s input n l text false

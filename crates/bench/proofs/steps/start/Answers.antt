@@ -11,8 +11,8 @@ returns c =
     let a = c.args in
     let e = c.begun-answer.ensures in
     let n = number c.begun-answer.result.answer in
-    c.silent.ensures
+    c.silent.ensures _
     ∙ elim c.if-is_accepted.branch [
-      | then-is_accepted w ↦ ap (λ (s : Bma150). silent s n) w.kept-is ∙ start_accepted a.running _ a.by a.when _ n e.outcome_value e.sensor_value (sym c.is_accepted.ensures ∙ w.if-is_accepted.true)
-      | else-is_accepted w ↦ ap (λ (s : Bma150). silent s n) w.kept-is ∙ start_refused a.running a.running a.by a.when _ n e.outcome_value (sym c.is_accepted.ensures ∙ w.if-is_accepted.false)
+      | then-is_accepted w ↦ ap (λ (s : Bma150). silent s n) w.running-is ∙ start_accepted a.running.now _ a.by a.when _ n e.outcome_value e.sensor_value (sym c.is_accepted.ensures ∙ w.if-is_accepted.true)
+      | else-is_accepted w ↦ ap (λ (s : Bma150). silent s n) w.running-is ∙ start_refused a.running.now a.running.now a.by a.when _ n e.outcome_value (sym c.is_accepted.ensures ∙ w.if-is_accepted.false)
     ]

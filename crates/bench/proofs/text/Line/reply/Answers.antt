@@ -11,14 +11,15 @@ use Rattle.bench.proofs.text.Line.reply.Goals as goal
 pub returns : goal.returns
 unfolding line
 returns c =
-    let r = c.args.reply in
+    let answer = c.args.answer in
+    let sensor = c.args.sensor.now in
     let front : List ℕ = hex c.args.b ++ (space ∷ []) in
-    let name : List ℕ = word (number r.answer) in
-    let added : List ℕ = added_text (answer_adds r.answer) in
-    let due : List ℕ = due_text c.args.trace (next_due r.sensor) in
-    let six : length (pins r.sensor) ≡ 6 = unfold pins in omega arith in
-    let fits : length (front ++ name ++ pins r.sensor ++ added ++ due ++ (10 ∷ [])) ≤ 128 =
-    simp length-append (omega (arith, six, word_fits r.answer, c.added.ensures.fits, due_fits c.args.trace (next_due r.sensor))) in
+    let name : List ℕ = word (number answer) in
+    let added : List ℕ = added_text (answer_adds answer) in
+    let due : List ℕ = due_text c.args.trace (next_due sensor) in
+    let six : length (pins sensor) ≡ 6 = unfold pins in omega arith in
+    let fits : length (front ++ name ++ pins sensor ++ added ++ due ++ (10 ∷ [])) ≤ 128 =
+    simp length-append (omega (arith, six, word_fits answer, c.added.ensures.fits, due_fits c.args.trace (next_due sensor))) in
     went_on _ _
     (went_on _ _
     (went_on _ _
