@@ -51,7 +51,7 @@ fn launch(sensor: &mut Sensor, r: u8)
     sensor.i2c = sensor.i2c.launched(ones_for(sent));
 }
 
-fn note_read(sensor: &mut Sensor, r: u8)
+fn begin_read(sensor: &mut Sensor, r: u8)
     ensures { sensor.new ≡ read_began sensor.old r }
 {
     *sensor = sensor.read_began(r);
@@ -66,7 +66,7 @@ fn act(sensor: &mut Sensor, action: Option<Action>, now: Time)
         Some(Action::Drop) => drop_byte(sensor),
         Some(Action::Write(r, v)) => write(sensor, r, v, now),
         Some(Action::Launch(r)) => launch(sensor, r),
-        Some(Action::ReadBegan(r)) => note_read(sensor, r),
+        Some(Action::ReadBegan(r)) => begin_read(sensor, r),
     }
 }
 

@@ -39,7 +39,7 @@ fn shift_output(sensor: &mut Sensor, at: Clocked)
 }
 
 #[tactic(auto, unfolding(crate::specs::SpiEdges::first_bit_taken))]
-fn note_read(sensor: &mut Sensor, a: Option<u8>)
+fn begin_read(sensor: &mut Sensor, a: Option<u8>)
     ensures { sensor.new ≡ Z.first_bit_taken a sensor.old }
 {
     if let Some(r) = a {
@@ -68,7 +68,7 @@ fn take_bit(sensor: &mut Sensor, mosi: bool, now: Time)
     ensures { sensor.new ≡ Z.bit_taken sensor.old mosi now }
 {
     let first = sensor.frame.first_bit();
-    note_read(sensor, first);
+    begin_read(sensor, first);
     let taken = sensor.frame.take_bit(mosi, sensor.four_wire());
     end_bit(sensor, taken, now);
     shift_output(sensor, Clocked::Rise);
