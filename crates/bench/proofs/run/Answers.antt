@@ -4,7 +4,7 @@ use Rattle.std.proofs.lemmas.Bool.{false≢true}
 use Rattle.std.proofs.lemmas.List.{take_rest}
 use Rattle.machine.specs.Machine.{running}
 use Rattle.machine.specs.Block.{bounded_turn}
-use Rattle.machine.proofs.Theorems.Blocks.{begun, pace_short, pace_full, pace_stopped, stopped_turn}
+use Rattle.machine.proofs.Theorems.Blocks.{begun, bounded_short, bounded_full, bounded_stopped, stopped_turn}
 use Rattle.bench.specs.Run.{bench}
 use Rattle.bench.specs.Theorems.Loop.{short, some, advance, went, going, finished}
 use Rattle.bench.proofs.run.Goals as goal
@@ -52,9 +52,9 @@ returns c =
     let ran = c.loop-stop in
     let b = running ran.sensor ran.left.now ran.out.items ran.stop in
     let still : bounded_turn (bench c.args.trace) c.args.over b ≡ b = elim c.loop-stop-test.branch [
-      | then-loop-stop-test+then-len-le-ROOM+else-is_whole w ↦ pace_short _ _ _ (short c.args.trace c.args.over _ (sym w.if-is_whole.ensures))
-      | then-loop-stop-test+else-len-le-ROOM w ↦ pace_full _ _ _ (omega (arith, w.len.ensures.value, w.if-len-le-ROOM.false))
-      | else-loop-stop-test w ↦ pace_stopped _ _ _ (stopped_turn _ _ w.loop-stop-test.false)
+      | then-loop-stop-test+then-len-le-ROOM+else-is_whole w ↦ bounded_short _ _ _ (short c.args.trace c.args.over _ (sym w.if-is_whole.ensures))
+      | then-loop-stop-test+else-len-le-ROOM w ↦ bounded_full _ _ _ (omega (arith, w.len.ensures.value, w.if-len-le-ROOM.false))
+      | else-loop-stop-test w ↦ bounded_stopped _ _ _ (stopped_turn _ _ w.loop-stop-test.false)
     ] in
     let done = finished c.args.trace ran.invariant still in
     record { value = done.0; text = done.1; input_value = done.2; read_in_bounds = omega arith }
