@@ -1,5 +1,5 @@
 // A command is served: a start, a call of the host, or refusal 7.
-ghost use Rattle.std.specs.Prelude.{◌≡◌, ◌≤◌, length};
+ghost use Rattle.std.specs.Prelude.{◌≡◌, length};
 ghost use Rattle.commands.specs.Decode as D;
 ghost use Rattle.commands.specs.declared.Command.TheVariants as Command;
 ghost use Rattle.calls.specs.Table as R;
@@ -7,7 +7,6 @@ ghost use Rattle.calls.specs.declared.types.Call.TheVariants as Call;
 ghost use Rattle.calls.specs.declared.types.Timed.TheVariants as Timed;
 ghost use Rattle.bma150.specs.Called as K;
 ghost use Rattle.bma150.specs.Values as Vals;
-ghost use Rattle.bma150.specs.Lent.{DueLent};
 ghost use Rattle.bench.specs.Line as L;
 
 use crate::types::{Answer, Extra};

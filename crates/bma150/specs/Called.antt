@@ -90,13 +90,13 @@ timed_adds _ r = Added.nothing
 abbrev pub served : Bma150 → (now : Time) → Timed → Served
 served s now t = effect (sync_local_until s.sensor now false) now t
 
--- what a call acts on: the sensor at a moment, the select pin, or no more than what a loss of supply leaves alone
+-- what a call acts on: the sensor at a moment, the select pin, or no more than what is kept
 pub data Acts : Type 0 where
   timed : Time → Timed → Acts
   select : Bool → Acts
   keeps : (Kept → Kept) → Acts
 
--- 01: temperature, select, view and stored image are no timed calls; view and stored image change nothing
+-- 01: temperature, select, view and stored image are no timed calls; view and stored image change nothing (the Rust's `peek` and `nonvolatile`)
 abbrev pub acts : Call → Acts
 acts (Call.At now t) = Acts.timed now t
 acts (Call.Temperature x) = Acts.keeps (with_temperature x)

@@ -51,7 +51,8 @@ fn hand_out(buffer: &mut [u8], image: [u8; 19])
     buffer.copy_from_slice(&image);
 }
 
-// A case of `effect`, as `pins` is, apart from it: a function clears room at its start for each record that it holds by value.
+// A case of `effect`, in a function of its own as `pins` is: on entry a function zeroes the space of every record that it holds by value,
+// even of a branch that is not taken.
 fn supply(sensor: &mut Sensor, rail: u16, now: Time) -> Option<Report>
     ensures sensor_value { sensor.new ≡ (set_supply sensor.old rail now).sensor }
     ensures report_value { result ≡ (set_supply sensor.old rail now).report }

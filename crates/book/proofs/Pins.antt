@@ -91,10 +91,10 @@ bit_keeps t mosi now =
     (shift_keeps _ Clocked.Rise)
 
 -- a read that begins leaves the frame
-noted_frame : (x : Option ℕ) (s : Sensor) (a : ℕ) → (byte_read x s a).frame ≡ s.frame
+read_frame : (x : Option ℕ) (s : Sensor) (a : ℕ) → (byte_read x s a).frame ≡ s.frame
 unfolding byte_read
-noted_frame None s a = refl
-noted_frame (Some b) s a = cond_both (counts_as_read s a) _ _ (λ (x : Sensor). x.frame ≡ s.frame) (λ e. refl) (λ e. refl)
+read_frame None s a = refl
+read_frame (Some b) s a = cond_both (counts_as_read s a) _ _ (λ (x : Sensor). x.frame ≡ s.frame) (λ e. refl) (λ e. refl)
 
 -- no write begins where nothing is written
 nothing_begun : (w : Option (ℕ × ℕ)) (s : Sensor) (now : Time) → w ≡ None → begun_writing w s now ≡ s.writing
@@ -114,7 +114,7 @@ taken_bit_keeps s mosi now = go (F.first_bit s.frame.serial s.frame.rx_bits) ref
     go (Some a) e =
         let t = read_began s a in
         let r = acknowledges_read s.frame.serial s.frame.rx_bits a e in
-        let f : t.frame ≡ s.frame = noted_frame s.frame.tx s a in
+        let f : t.frame ≡ s.frame = read_frame s.frame.tx s a in
         let p : begun_writing (F.take_bit s.frame mosi (four_wire s)).write s now ≡ s.writing = nothing_begun _ s now (read_writes_nothing s.frame mosi (four_wire s) r.0 r.1) in
         let q : begun_writing (F.take_bit t.frame mosi (four_wire t)).write t now ≡ t.writing = nothing_begun _ t now (read_writes_nothing t.frame mosi (four_wire t) r.0 (ap (λ (x : Frame). x.serial) f ∙ r.1)) in
         let k : Keeps (with_writing t (begun_writing (F.take_bit t.frame mosi (four_wire t)).write t now)) (shift_output (bit_done (F.take_bit t.frame mosi (four_wire t)) t now) Clocked.Rise) = bit_keeps t mosi now in

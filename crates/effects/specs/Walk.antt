@@ -77,7 +77,7 @@ pub record Steps (now : Time) (R : Sensor → Sensor → Type 0) : Type 0 where
   pub copies : (s : Sensor) → R s (copy_image s)
   pub loads : (s : Sensor) → R s (image_loaded s)
   pub wakes : (s : Sensor) → R s (with_sampling (with_deadlines s (with_wake s.deadlines None)) (with_clock s.sampling (Clock.started now)))
-  -- ---- supply, acceleration, temperature and what is kept of the lines
+  -- ---- supply, acceleration, and what is kept with the same acceleration
   pub stops : (s : Sensor) → R s (hold_analog s now)
   pub cuts : (s : Sensor) (w : StoredWrite) → s.writing ≡ Some w → R s (write_over s w.address (byte_at w s.nonvolatile now))
   pub goes_off : (s : Sensor) (cold : Bool) → R s (with_outage s (Some (record { since = now; cold = cold })))
@@ -85,4 +85,4 @@ pub record Steps (now : Time) (R : Sensor → Sensor → Type 0) : Type 0 where
   pub comes_back : (s : Sensor) (o : Outage) → s.outage ≡ Some o → R s (with_outage (with_deadlines s (shifted s.deadlines (since now o.since))) None)
   pub powers_on : (s : Sensor) → is_off s ≡ true → R s (power_on s now)
   pub sets : (s : Sensor) (input : Acceleration) → R s (set_input s input now)
-  pub keeps : (s : Sensor) (k : Kept) → R s (with_kept s k)
+  pub keeps : (s : Sensor) (k : Kept) → k.input.acceleration ≡ s.kept.input.acceleration → R s (with_kept s k)

@@ -44,10 +44,10 @@ run_is {s} (Run.next {t = t} {u = u} {c = c} {a = a} {cs = cs} {out = out} p q) 
     (cc (e.0, e.1, r.0), r.1 ∙ ap (λ (x : Bma150). after x cs) e.0)
 
 -- the calls answered with 0 are those that the definitions accept
-pub taken_is : (s : Bma150) (cs : List Call) → accepted_calls cs (answers s cs) ≡ accepted s cs
+pub accepted_calls_are : (s : Bma150) (cs : List Call) → accepted_calls cs (answers s cs) ≡ accepted s cs
 unfolding accepted_calls answers accepted
-taken_is s [] = refl
-taken_is s (c ∷ cs) = rw (taken_is (step s c) cs)
+accepted_calls_are s [] = refl
+accepted_calls_are s (c ∷ cs) = rw (accepted_calls_are (step s c) cs)
 
 module _ {b : Start} {cs : List Call} (r : Ran functions b cs) where
   first_is : r.first ≡ L.started b
@@ -60,7 +60,7 @@ module _ {b : Start} {cs : List Call} (r : Ran functions b cs) where
   last_is = (run_is r.runs).1 ∙ ap (λ (x : Bma150). after x cs) first_is
 
   pub accepted_are : accepted_calls cs r.out ≡ accepted (L.started b) cs
-  accepted_are = ap (λ (l : List Answer). accepted_calls cs l) out_is ∙ taken_is (L.started b) cs
+  accepted_are = ap (λ (l : List Answer). accepted_calls cs l) out_is ∙ accepted_calls_are (L.started b) cs
 
   start_taken : start_number b.by b.time b.image ≡ 0
   start_taken = sym (ap (λ (a : Answer). a.number) (begun r.begins).1) ∙ r.accepted

@@ -89,7 +89,7 @@ fn edges_until(sensor: Sensor, end: Time, inclusive: bool) -> u64
     sensor.sampling.clock.edges_before(limit(end, inclusive))
 }
 
-// Apart from its test: a function clears room at its start for each record that it holds by value.
+// A function of its own: on entry a function zeroes the space of every record that it holds by value, even of a branch that is not taken.
 fn take_samples(sensor: &mut Sensor, end: Time, n: u64)
     ensures { sensor.new ≡ automatic_control (S.after_edges sensor.old n) end false false }
 {

@@ -29,8 +29,8 @@ fn end_waits(sensor: &mut Sensor, now: Time)
     sensor.deadlines.quiet = unless_at(sensor.deadlines.quiet, now);
 }
 
-// Apart from its test, as `complete` and `load_image` are from theirs: a function clears room at its start for each record that it holds by
-// value.
+// A function of its own, as `complete` and `load_image` are: on entry a function zeroes the space of every record that it holds by value,
+// even of a branch that is not taken.
 fn acquire(sensor: &mut Sensor, now: Time)
     ensures { sensor.new ≡ start_acquisition sensor.old now (from_millis 1) }
 {

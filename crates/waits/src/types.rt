@@ -8,6 +8,7 @@ pub enum Report {
     Cut(u8, u8),
 }
 
+// The sensor that a supply call leaves, and its report.
 #[derive(Clone, Copy)]
 pub struct Served {
     pub sensor: Sensor,

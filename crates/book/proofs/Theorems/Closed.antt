@@ -239,9 +239,9 @@ begun_agrees image k l a now h =
 
 -- ---- one call, and every list of calls
 
-noted_agrees : (image : List ℕ) (k : Book) (l : List Wrote) (e : Entry) → Agrees image k l
+entry_agrees : (image : List ℕ) (k : Book) (l : List Wrote) (e : Entry) → Agrees image k l
     → Agrees image (began (supplied e.rail (completed k e.time) e.time) e.asked e.time) (after_entry l e)
-noted_agrees image k l e h =
+entry_agrees image k l e h =
     begun_agrees image _ _ e.asked e.time (supplied_agrees image _ _ e.rail e.time (completed_agrees image k l e.time h))
 
 -- the record that the definitions keep is not part of it
@@ -264,7 +264,7 @@ entered_agrees image k c l later P h next = go (accepts (filled k) c) next
     by_time : (time : Option Time) → ((m : List Wrote) → Agrees image (with_rest (changed_at time (does c) k s) rest) m → P (written m later))
         → P (written l (with_entry time (does c) s later))
     by_time None next = next l (rest_agrees rest h)
-    by_time (Some now) next = next _ (rest_agrees rest (noted_agrees image k l (record { time = now; rail = (does c).rail; asked = (does c).asks s }) h))
+    by_time (Some now) next = next _ (rest_agrees rest (entry_agrees image k l (record { time = now; rail = (does c).rail; asked = (does c).asks s }) h))
 
     go : (b : Bool) → ((m : List Wrote) → Agrees image (cond b (with_rest (changed k s c) rest) k) m → P (written m later))
         → P (written l (cond b (with_entry (does c).time (does c) s later) later))

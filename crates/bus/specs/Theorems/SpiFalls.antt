@@ -89,11 +89,11 @@ stays : (shows : ℕ → Option ℕ) (at : Clocked) (w : Bool) (s : Serial) (b x
 unfolding F.shifts
 stays shows at w s b x r = moves_as shows (F.moves at w false) s b x r
 
-unnoted : (s : Serial) (b : ℕ) → F.reads s ≡ false → F.first_bit s b ≡ None
+begins_no_read : (s : Serial) (b : ℕ) → F.reads s ≡ false → F.first_bit s b ≡ None
 unfolding F.reads F.first_bit
-unnoted S.Address b r = refl
-unnoted (S.Write a) b r = refl
-unnoted (S.Read a) b r = absurd_bool r
+begins_no_read S.Address b r = refl
+begins_no_read (S.Write a) b r = refl
+begins_no_read (S.Read a) b r = absurd_bool r
 
 -- a rise whose bit leaves a byte being received, and no write
 rise_passes : (s : Serial) (r : F.reads s ≡ false) (b x : ℕ) (d : Bool) (ns : List Now) (to : Serial) (q : F.reads to ≡ false) (c y : ℕ)
@@ -104,7 +104,7 @@ rise_passes s r b x d ns to q c y e =
     let still = stays n.shows Clocked.Rise n.four_wire_then to c y q in
     one_passes (Rise d) ns (ap (λ (t : Taken). bit_served n t) e ∙ still.0)
     (ap (λ (t : Taken). bit_deeds n (F.first_bit s b) t) e
-    ∙ ap (λ (k : Option ℕ). read_deeds k ++ fetched (F.shifts (receiving to c y) Clocked.Rise n.four_wire_then)) (unnoted s b r)
+    ∙ ap (λ (k : Option ℕ). read_deeds k ++ fetched (F.shifts (receiving to c y) Clocked.Rise n.four_wire_then)) (begins_no_read s b r)
     ∙ still.1) refl
 
 fall_passes : (s : Serial) (r : F.reads s ≡ false) (b x : ℕ) (ns : List Now) → Passes (receiving s b x) (Fall ∷ []) ns (receiving s b x)

@@ -270,7 +270,7 @@ module _ (now : Time) where
     comes_back = λ s o e. stays refl refl refl refl;
     powers_on = λ s o. fresh refl refl refl (Course.returned Course.here now);
     sets = λ s input. let k = set_keeps s input now in stays refl refl k.0 k.1;
-    keeps = λ s k. stays refl refl refl refl;
+    keeps = λ s k e. stays refl refl refl refl;
   }
 
 -- ---- what an axis shows

@@ -91,5 +91,5 @@ module _ (now : Time) where
     comes_back = λ s o e. record { onward = λ h. h };
     powers_on = λ s o. record { onward = λ h. rest_upto now };
     sets = λ s input. record { onward = λ h. input_upto s input h };
-    keeps = λ s k. record { onward = λ h. h };
+    keeps = λ s k e. record { onward = λ h. h };
   }

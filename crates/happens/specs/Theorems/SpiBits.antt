@@ -49,10 +49,10 @@ module _ (s : Sensor) (n y : ℕ) where
   output_still k at w = moved_nowhere k (F.moves at w false)
 
 -- at the first bit of such a byte no read begins
-nothing_noted : {p : Serial} → Taking p → (n : ℕ) (s : Sensor) → E.first_bit_taken (F.first_bit p n) s ≡ s
+no_read_begins : {p : Serial} → Taking p → (n : ℕ) (s : Sensor) → E.first_bit_taken (F.first_bit p n) s ≡ s
 unfolding E.first_bit_taken F.first_bit
-nothing_noted address n s = refl
-nothing_noted (value a) n s = refl
+no_read_begins address n s = refl
+no_read_begins (value a) n s = refl
 
 module _ (now : Time) (s : Sensor) (h : Held now s) where
   listens : (p : Serial) (n y : ℕ) → E.spi_listens (with_frame s (receiving p n y)) ≡ true
@@ -67,7 +67,7 @@ module _ (now : Time) (s : Sensor) (h : Held now s) where
   rise_takes {p} k n y d =
       let t = with_frame s (receiving p n y) in
       rw (listens p n y)
-      (ap (λ (u : Sensor). E.shift_output (E.bit_done (F.take_bit u.frame d (four_wire u)) u now) C.Rise) (nothing_noted k n t))
+      (ap (λ (u : Sensor). E.shift_output (E.bit_done (F.take_bit u.frame d (four_wire u)) u now) C.Rise) (no_read_begins k n t))
 
   -- one of the first seven bits of a byte
   bit_taken : {p : Serial} → Taking p → (n y : ℕ) (d : Bool) → n < 7
