@@ -1,11 +1,12 @@
 -- A relation that each step meets at every moment is met by every accepted call.
-use mathlib.Core.Bool.{false}
+use Rattle.std.specs.Prelude.{refl, false}
 use Rattle.time.specs.declared.Time.{Time}
 use Rattle.calls.specs.declared.types.Timed.{Timed}
 use Rattle.calls.specs.declared.types.Call.{Call}
 use Rattle.sensor.specs.declared.types.Sensor.{Sensor}
-use Rattle.sensor.specs.Record.{with_temperature}
+use Rattle.sensor.specs.Record.{with_temperature, lines_kept}
 use Rattle.samples.specs.Samples.{sync_local_until}
+use Rattle.serial.specs.I2cPins.{i2c_pins_at}
 use Rattle.bma150.specs.declared.host.Bma150.{Bma150}
 use Rattle.bma150.specs.Called.{effect, leaves}
 use Rattle.effects.specs.Walk.{Steps}
@@ -20,7 +21,8 @@ module _ (now : Time) (R : Sensor → Sensor → Type 0) (p : Steps now R) where
   effect_meets s Timed.Due = due_meets now R p s
   effect_meets s (Timed.Rising mosi) = rising_meets now R p s mosi
   effect_meets s Timed.Falling = falling_meets now R p s
-  effect_meets s (Timed.Pins before after) = p.then (pins_meets now R p s before after) (p.keeps _ _ refl)
+  effect_meets s (Timed.Pins before after) =
+      let u = i2c_pins_at s before after now in p.then (pins_meets now R p s before after) (p.keeps u (lines_kept u.kept after) refl)
 
   timed_meets : (s : Sensor) (t : Timed) → R s (effect (sync_local_until s now false) now t).sensor
   timed_meets s t = p.then (sync_meets now R p s false) (effect_meets _ t)
