@@ -28,7 +28,7 @@ use Rattle.bma150.specs.declared.host.Bma150.{Bma150}
 use Rattle.bma150.specs.Called.{Acts, acts, left_by, effect, leaves}
 use Rattle.book.specs.Does.{at_rise, at_pins, timed_does, act_does, does}
 use Rattle.book.specs.Lists.{accepts, step, Start, started, after, accepted, last_kept, kept}
-use Rattle.book.specs.Follows.{call_levels, last_levels, both_high, lines, Follows}
+use Rattle.book.specs.Follows.{call_acceleration, call_temperature, call_levels, last_set, both_high, lines, Follows, LastSet}
 use Rattle.book.proofs.Call.{after_call, at_start}
 use Rattle.book.proofs.Keeps.{Core, core, then, select_core, sync_keeps, rise_synced_keeps, pins_synced_keeps, falling_keeps}
 use Rattle.book.proofs.Pins.{rising_keeps, pins_keeps}
@@ -116,20 +116,41 @@ started_kept b = at_start (λ x. x.sensor.kept ≡ new_kept) b (λ e. refl) refl
 pub kept_follows : (b : Start) (cs : List Call) → (after (started b) cs).sensor.kept ≡ kept b cs
 kept_follows b cs = after_kept (started b) cs ∙ ap (λ (k : Kept). last_kept k (accepted (started b) cs)) (started_kept b)
 
--- ---- the levels of the lines
+-- ---- what was last set, for a part of what is kept that each call sets so
+
+module _ {A : Type 0} (part : Kept → A) (sets : Call → A → A) (same : (c : Call) (k : Kept) → part ((does c).keeps k) ≡ sets c (part k)) where
+  list_set : (k : Kept) (cs : List Call) → part (last_kept k cs) ≡ last_set sets (part k) cs
+  unfolding last_kept last_set
+  list_set k [] = refl
+  list_set k (c ∷ cs) = list_set ((does c).keeps k) cs ∙ ap (λ (a : A). last_set sets a cs) (same c k)
+
+  kept_set : (b : Start) (cs : List Call) → part (after (started b) cs).sensor.kept ≡ last_set sets (part new_kept) (accepted (started b) cs)
+  kept_set b cs = ap part (kept_follows b cs) ∙ list_set new_kept (accepted (started b) cs)
 
 does_levels : (c : Call) (k : Kept) → ((does c).keeps k).lines ≡ call_levels c k.lines
 unfolding does timed_does call_levels
 does_levels (Call.At now (Timed.Pins from to)) k = refl
 does_levels _ k = refl
 
-list_levels : (k : Kept) (cs : List Call) → (last_kept k cs).lines ≡ last_levels k.lines cs
-unfolding last_kept last_levels
-list_levels k [] = refl
-list_levels k (c ∷ cs) = list_levels ((does c).keeps k) cs ∙ ap (λ (l : Levels). last_levels l cs) (does_levels c k)
+does_acceleration : (c : Call) (k : Kept) → ((does c).keeps k).input.acceleration ≡ call_acceleration c k.input.acceleration
+unfolding does timed_does call_acceleration
+does_acceleration (Call.At now (Timed.Accelerations input)) k = refl
+does_acceleration _ k = refl
+
+does_temperature : (c : Call) (k : Kept) → ((does c).keeps k).input.temperature_millicelsius ≡ call_temperature c k.input.temperature_millicelsius
+unfolding does timed_does call_temperature
+does_temperature (Call.At now Timed.Due) k = refl
+does_temperature (Call.Temperature millicelsius) k = refl
+does_temperature _ k = refl
+
+pub last_sets : LastSet
+last_sets = record {
+  acceleration = kept_set (λ (k : Kept). k.input.acceleration) call_acceleration does_acceleration;
+  temperature = kept_set (λ (k : Kept). k.input.temperature_millicelsius) call_temperature does_temperature;
+}
 
 remembered : (b : Start) (cs : List Call) → (after (started b) cs).sensor.kept.lines ≡ lines b cs
-remembered b cs = ap (λ (k : Kept). k.lines) (kept_follows b cs) ∙ list_levels new_kept (accepted (started b) cs)
+remembered = kept_set (λ (k : Kept). k.lines) call_levels does_levels
 
 begins_there : (b : Start) (cs : List Call) (now : Time) (from to : Levels) → accepts (after (started b) cs) (Call.At now (Timed.Pins from to)) ≡ true → from ≡ lines b cs
 begins_there b cs now from to p =
