@@ -93,10 +93,14 @@ act_ends s (Acts.keeps f) = false
 unfoldable pub ends : Bma150 → Call → Bool
 ends s c = act_ends s.sensor (acts c)
 
--- an accepted call of the list does
-unfoldable pub ended : Bma150 → List Call → Bool
-ended s [] = false
-ended s (c ∷ cs) = accepts s c && ends s c || ended (step s c) cs
+-- this is so of an accepted call of the list
+unfoldable pub some_accepted : (Bma150 → Call → Bool) → Bma150 → List Call → Bool
+some_accepted so s [] = false
+some_accepted so s (c ∷ cs) = accepts s c && so s c || some_accepted so (step s c) cs
+
+-- an accepted call of the list ends hearing
+abbrev pub ended : Bma150 → List Call → Bool
+ended s cs = some_accepted ends s cs
 
 -- ---- what is seen
 

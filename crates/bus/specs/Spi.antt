@@ -1,5 +1,5 @@
 -- SPI as the edges of a list of calls have it, and what the selected sensor does on it.
-use Rattle.std.specs.Prelude.{ℕ, ◌≡◌, Bool, true, false, not, ◌&&◌, ◌||◌, List, [], ◌∷◌, ltb, if◌then◌else◌, Option, Some, None}
+use Rattle.std.specs.Prelude.{ℕ, ◌≡◌, Bool, true, false, not, ◌||◌, List, [], ◌∷◌, ltb, if◌then◌else◌, Option, Some, None}
 use Rattle.time.specs.declared.Time.{Time}
 use Rattle.spi.specs.declared.types.Drive.{Drive}
 use Rattle.spi.specs.Frame as F
@@ -17,7 +17,7 @@ use Rattle.bma150.specs.declared.host.Bma150.{Bma150}
 use Rattle.bma150.specs.Called.{Acts, acts}
 use Rattle.book.specs.Does.{at_rise, spi_write}
 use Rattle.book.specs.Lists.{accepts, step}
-use Rattle.bus.specs.I2c.{sampled, is_reset}
+use Rattle.bus.specs.I2c.{sampled, is_reset, some_accepted}
 
 -- ---- a selected sensor that hears SPI: with supply, its pins not dead, not quiet after a soft reset
 pub record Chosen (s : Sensor) : Type 0 where
@@ -115,9 +115,8 @@ unfoldable pub leaves_frame : Bma150 → Call → Bool
 leaves_frame s c = act_leaves s.sensor (acts c)
 
 -- an accepted call of the list does
-unfoldable pub left_frame : Bma150 → List Call → Bool
-left_frame s [] = false
-left_frame s (c ∷ cs) = accepts s c && leaves_frame s c || left_frame (step s c) cs
+abbrev pub left_frame : Bma150 → List Call → Bool
+left_frame s cs = some_accepted leaves_frame s cs
 
 -- ---- sleep, which releases the driver
 
@@ -131,9 +130,8 @@ unfoldable pub sleeps_at : Bma150 → Call → Bool
 sleeps_at s c = act_sleeps s.sensor (acts c) || (step s c).sensor.sampling.asleep
 
 -- at an accepted call of the list
-unfoldable pub sleeps : Bma150 → List Call → Bool
-sleeps s [] = false
-sleeps s (c ∷ cs) = accepts s c && sleeps_at s c || sleeps (step s c) cs
+abbrev pub sleeps : Bma150 → List Call → Bool
+sleeps s cs = some_accepted sleeps_at s cs
 
 -- ---- what is seen
 

@@ -264,7 +264,7 @@ record Computed : Type 0 where
   spi_begins : (booked (opened stock_start) ((spi_before ++ spi_within) ++ (last_rise ∷ []))).running ≡ begun
 
 computed : Computed
-unfolding LB.all_shifted_in LI.iterate NC.mixed NC.low_half NC.threshold NC.crossing NC.bits_where NC.byte FF.pushed FF.full FF.answered FM.tabulate FM.ring FM.sumZ FM.mean NR.sets NR.clears NR.raised NR.active NR.observe NR.fires NR.counted NP.motion_output NP.threshold_output NP.output NP.enables_motion NP.verifying_motion NP.candidate NP.verifying NS.configure NS.restart_acquisition NS.reset NS.axis NS.moved NS.moves NS.count_motion NS.qualifies NS.alerts NS.detects NS.decide NS.observation NS.cycle NS.shorten NS.lapsed NS.ended NS.millisecond IB.data_moves IB.edge IB.is_condition IB.is_start IB.is_rise IB.is_fall IB.data_at IE.conditioned IE.acknowledging IE.within_byte IE.pointer_after IE.bit_taken IE.byte_step IE.at_ninth IE.followed IE.acknowledge_step IE.answered IE.answer IE.answer_step IE.ninth_step IE.addressed IE.received IE.completes IE.completed IE.step IE.uses_as IE.uses_at_rise IE.reads_next IE.goes_on IE.uses_at_fall IE.consumes_conversion Ra.unwritable Ra.working Ra.stored Ra.image_blocks Ra.sleep_blocks Ra.locked Ra.ignores Ra.begins Ra.unreadable Ra.withheld RC.clamped RC.signed_ten RC.range_g RC.code RC.temperature DD.is_set DD.is_at DD.is_by DD.sooner DD.unless_at DD.later DD.first DD.earliest CW.written_control CW.written_register CW.kind_of_write CW.self_test CW.sleep CA.holds CA.pauses_again CA.may_pause CL.acquisition_cycles SF.differs SF.select SF.reads SF.first_bit SF.addressed SF.completed SF.take_bit SF.moves SF.fetches SF.shifts SF.bit_drive SF.level SF.next_bit SF.moved SF.consumes_at_rise SF.consumes_at_fall RR.is_acceleration RR.is_shadowed RR.pair RR.high_byte RR.prepared RR.began RR.sent_byte_read SP.converted SP.all_new SP.ready SP.interval SP.observing SP.observed SP.scanned SP.test_counted SP.axis_phase SP.sample_phase SP.ticks_now SP.ticked SP.sample BR.away BR.cold_of BR.runs BR.tests Bi.cell_byte Bi.with_cell Bi.image_at Bi.shadowing BC.pause_end BC.shows_new_data BC.interrupt BC.pause_restarted BC.interrupt_held BC.pause_if_idle BC.automatic_control BC.reset_time BG.shown BG.peek BG.mark BG.mark_of BG.fetched BG.counts_as_read BG.byte_read BW.recounted BW.interrupts_written BW.tested BW.slept BW.image_written BW.mode_written BW.register_effect BW.write_effect BS.samples_run BS.next_sample BS.write_end BS.sample_due BS.next_deadline BS.limit BS.caught_up BS.samples_on_demand BS.sync_local_until BL.selected_to BL.may_select BE.moved BE.first_bit_taken BE.write_done BE.spi_listens BE.rising_effect BE.rise_synced BE.fall_synced BE.falling_effect BP.i2c_listens BP.ones_for BP.acted BP.i2c_pins BP.pins_synced BO.spi_drives BO.output BO.i2c_holds BO.data_output BU.cut BU.turned ST.hold ST.turned BU.zero_while_off BU.reacquired BU.returned BU.supply_low BU.supply_ok BU.set_supply BD.pause_ended BD.write_ended BD.image_ended BD.wake_ended BD.sample_ended BD.verifies TF.timed_facts TF.facts T.refusal_number T.number T.wrong_length T.beyond T.any_beyond T.out_of_range T.jumps T.late T.too_late T.goes_back T.due_by T.before_due T.due_at T.beside_due T.first_found T.refusal T.reserved T.turned_down T.start_refusal T.unless_refused C.after_start C.reported C.put_in C.effect C.timed_adds C.leaves C.adds BV.drive_letter BV.report_values BV.view_value BV.mark_letter RD.spi_write RD.action_write RD.i2c_write RD.timed_does RD.does RL.after RL.answers RL.accepted RL.zeroed RL.met_zero RL.last_kept RB.operation RB.completing RB.cutting RB.supplied RB.runs RB.accepted_write RB.of_write RB.began RB.changed_at RB.entered RB.booked BB.timed_event BB.event BB.events BB.is_reset BB.resets BB.timed_ends BB.ends BB.ended IT.and_edge IT.clocked BX.timed_edge BX.edge_of BX.and_some BX.edges BX.write_resets BX.timed_leaves BX.leaves_frame BX.left_frame SL.levels
+unfolding LB.all_shifted_in LI.iterate NC.mixed NC.low_half NC.threshold NC.crossing NC.bits_where NC.byte FF.pushed FF.full FF.answered FM.tabulate FM.ring FM.sumZ FM.mean NR.sets NR.clears NR.raised NR.active NR.observe NR.fires NR.counted NP.motion_output NP.threshold_output NP.output NP.enables_motion NP.verifying_motion NP.candidate NP.verifying NS.configure NS.restart_acquisition NS.reset NS.axis NS.moved NS.moves NS.count_motion NS.qualifies NS.alerts NS.detects NS.decide NS.observation NS.cycle NS.shorten NS.lapsed NS.ended NS.millisecond IB.data_moves IB.edge IB.is_condition IB.is_start IB.is_rise IB.is_fall IB.data_at IE.conditioned IE.acknowledging IE.within_byte IE.pointer_after IE.bit_taken IE.byte_step IE.at_ninth IE.followed IE.acknowledge_step IE.answered IE.answer IE.answer_step IE.ninth_step IE.addressed IE.received IE.completes IE.completed IE.step IE.uses_as IE.uses_at_rise IE.reads_next IE.goes_on IE.uses_at_fall IE.consumes_conversion Ra.unwritable Ra.working Ra.stored Ra.image_blocks Ra.sleep_blocks Ra.locked Ra.ignores Ra.begins Ra.unreadable Ra.withheld RC.clamped RC.signed_ten RC.range_g RC.code RC.temperature DD.is_set DD.is_at DD.is_by DD.sooner DD.unless_at DD.later DD.first DD.earliest CW.written_control CW.written_register CW.kind_of_write CW.self_test CW.sleep CA.holds CA.pauses_again CA.may_pause CL.acquisition_cycles SF.differs SF.select SF.reads SF.first_bit SF.addressed SF.completed SF.take_bit SF.moves SF.fetches SF.shifts SF.bit_drive SF.level SF.next_bit SF.moved SF.consumes_at_rise SF.consumes_at_fall RR.is_acceleration RR.is_shadowed RR.pair RR.high_byte RR.prepared RR.began RR.sent_byte_read SP.converted SP.all_new SP.ready SP.interval SP.observing SP.observed SP.scanned SP.test_counted SP.axis_phase SP.sample_phase SP.ticks_now SP.ticked SP.sample BR.away BR.cold_of BR.runs BR.tests Bi.cell_byte Bi.with_cell Bi.image_at Bi.shadowing BC.pause_end BC.shows_new_data BC.interrupt BC.pause_restarted BC.interrupt_held BC.pause_if_idle BC.automatic_control BC.reset_time BG.shown BG.peek BG.mark BG.mark_of BG.fetched BG.counts_as_read BG.byte_read BW.recounted BW.interrupts_written BW.tested BW.slept BW.image_written BW.mode_written BW.register_effect BW.write_effect BS.samples_run BS.next_sample BS.write_end BS.sample_due BS.next_deadline BS.limit BS.caught_up BS.samples_on_demand BS.sync_local_until BL.selected_to BL.may_select BE.moved BE.first_bit_taken BE.write_done BE.spi_listens BE.rising_effect BE.rise_synced BE.fall_synced BE.falling_effect BP.i2c_listens BP.ones_for BP.acted BP.i2c_pins BP.pins_synced BO.spi_drives BO.output BO.i2c_holds BO.data_output BU.cut BU.turned ST.hold ST.turned BU.zero_while_off BU.reacquired BU.returned BU.supply_low BU.supply_ok BU.set_supply BD.pause_ended BD.write_ended BD.image_ended BD.wake_ended BD.sample_ended BD.verifies TF.timed_facts TF.facts T.refusal_number T.number T.wrong_length T.beyond T.any_beyond T.out_of_range T.jumps T.late T.too_late T.goes_back T.due_by T.before_due T.due_at T.beside_due T.first_found T.refusal T.reserved T.turned_down T.start_refusal T.unless_refused C.after_start C.reported C.put_in C.effect C.timed_adds C.leaves C.adds BV.drive_letter BV.report_values BV.view_value BV.mark_letter RD.spi_write RD.action_write RD.i2c_write RD.timed_does RD.does RL.after RL.answers RL.accepted RL.zeroed RL.met_zero RL.last_kept RB.operation RB.completing RB.cutting RB.supplied RB.runs RB.accepted_write RB.of_write RB.began RB.changed_at RB.entered RB.booked BB.timed_event BB.event BB.events BB.is_reset BB.resets BB.timed_ends BB.ends BB.some_accepted IT.and_edge IT.clocked BX.timed_edge BX.edge_of BX.and_some BX.edges BX.write_resets BX.timed_leaves BX.leaves_frame SL.levels
 computed = record {
   of_extremes = record { start_accepted = refl; supply_accepted = refl; from_zero = refl; cells = refl };
   accepts_extremes = refl;

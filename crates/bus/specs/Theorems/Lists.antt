@@ -12,7 +12,7 @@ use Rattle.i2c.proofs.Theorems.Frames.{still_changes_nothing, Serves}
 use Rattle.calls.specs.declared.types.Call.{Call}
 use Rattle.bma150.specs.declared.host.Bma150.{Bma150}
 use Rattle.book.specs.Lists.{accepts, step, after, accepted}
-use Rattle.bus.specs.I2c.{Heard, event, events, target_of, ends, ended, shows, at_event, shown, sees, seen_of}
+use Rattle.bus.specs.I2c.{Heard, event, events, target_of, ends, some_accepted, ended, shows, at_event, shown, sees, seen_of}
 use Rattle.bus.specs.Theorems.Calls.{refused_leaves, hears_on, call_served, call_seen}
 
 left_event : (e : Edge) (es : List Edge) (f : ℕ → ℕ) (fs : List (ℕ → ℕ)) (v : Target) → left v (and_edge e es) (at_event e f fs) ≡ left (serve f v e) es fs
@@ -65,14 +65,22 @@ module _ (s : Bma150) (c : Call) (cs : List Call) (h : Heard s.sensor) (rest : T
         rw e (rest.1 ∙ ap (λ (v : Target). seen v es fs) same),
       )
 
+-- what is so of no accepted call of a list is not so of its first, and of none of the rest
+module _ (so : Bma150 → Call → Bool) (s : Bma150) (c : Call) (cs : List Call) (n : some_accepted so s (c ∷ cs) ≡ false) where
+  pub not_first : accepts s c ≡ true → so s c ≡ false
+  unfolding some_accepted
+  not_first e = rw e at (or_left (accepts s c && so s c) (some_accepted so (step s c) cs) n)
+
+  pub not_rest : some_accepted so (step s c) cs ≡ false
+  unfolding some_accepted
+  not_rest = or_right (accepts s c && so s c) (some_accepted so (step s c) cs) n
+
 module _ (s : Bma150) (c : Call) (cs : List Call) (h : Heard s.sensor) (n : ended s (c ∷ cs) ≡ false) where
   pub goes_on : accepts s c ≡ true → ends s c ≡ false
-  unfolding ended
-  goes_on e = rw e at (or_left (accepts s c && ends s c) (ended (step s c) cs) n)
+  goes_on = not_first ends s c cs n
 
   pub rest_goes_on : ended (step s c) cs ≡ false
-  unfolding ended
-  rest_goes_on = or_right (accepts s c && ends s c) (ended (step s c) cs) n
+  rest_goes_on = not_rest ends s c cs n
 
   pub next_heard : Heard (step s c).sensor
   next_heard = by_acceptance (accepts s c) refl

@@ -1,8 +1,7 @@
 -- SPI frames through the calls: any accepted moments, with other calls anywhere between.
-use Rattle.std.specs.Prelude.{◌≡◌, refl, Bool, true, false, ◌&&◌, List, [], ◌∷◌, Option, Some, None}
+use Rattle.std.specs.Prelude.{◌≡◌, refl, Bool, true, false, List, [], ◌∷◌, Option, Some, None}
 use Rattle.std.proofs.Common.{sym, ◌∙◌}
 use Rattle.std.proofs.Math.Path.{ap, subst}
-use Rattle.laws.specs.Bools.{or_left, or_right}
 use Rattle.spi.specs.declared.types.Drive.TheVariants as D
 use Rattle.spi.specs.declared.types.Frame.{Frame}
 use Rattle.spi.specs.Lines.{Event, Now, Seen, seen}
@@ -11,6 +10,7 @@ use Rattle.bma150.specs.declared.host.Bma150.{Bma150}
 use Rattle.book.specs.Lists.{accepts, step, after, accepted}
 use Rattle.bus.specs.Spi.{Chosen, edge_of, and_some, edges, now_of, leaves_frame, left_frame, sleeps_at, sleeps, now_edge, nows}
 use Rattle.bus.specs.Theorems.Calls.{refused_leaves}
+use Rattle.bus.specs.Theorems.Lists.{not_first, not_rest}
 use Rattle.bus.specs.Theorems.SpiServed.{predicted, call_left}
 use Rattle.bus.specs.Theorems.SpiLists.{One, one_awake, one_floating, Exact}
 
@@ -18,12 +18,10 @@ use Rattle.bus.specs.Theorems.SpiLists.{One, one_awake, one_floating, Exact}
 
 module _ (s : Bma150) (c : Call) (cs : List Call) (h : Chosen s.sensor) (n : left_frame s (c ∷ cs) ≡ false) where
   pub stays : accepts s c ≡ true → leaves_frame s c ≡ false
-  unfolding left_frame
-  stays e = rw e at (or_left (accepts s c && leaves_frame s c) (left_frame (step s c) cs) n)
+  stays = not_first leaves_frame s c cs n
 
   pub rest_stays : left_frame (step s c) cs ≡ false
-  unfolding left_frame
-  rest_stays = or_right (accepts s c && leaves_frame s c) (left_frame (step s c) cs) n
+  rest_stays = not_rest leaves_frame s c cs n
 
   pub next_chosen : Chosen (step s c).sensor
   next_chosen = by (accepts s c) refl
@@ -41,12 +39,10 @@ stays_chosen (c ∷ cs) s h n = stays_chosen cs (step s c) (next_chosen s c cs h
 
 module _ (s : Bma150) (c : Call) (cs : List Call) (n : sleeps s (c ∷ cs) ≡ false) where
   awake_at : accepts s c ≡ true → sleeps_at s c ≡ false
-  unfolding sleeps
-  awake_at e = rw e at (or_left (accepts s c && sleeps_at s c) (sleeps (step s c) cs) n)
+  awake_at = not_first sleeps_at s c cs n
 
   rest_awake : sleeps (step s c) cs ≡ false
-  unfolding sleeps
-  rest_awake = or_right (accepts s c && sleeps_at s c) (sleeps (step s c) cs) n
+  rest_awake = not_rest sleeps_at s c cs n
 
 pub awake_exact : (cs : List Call) (s : Bma150) → Chosen s.sensor → left_frame s cs ≡ false → sleeps s cs ≡ false → Exact s cs
 awake_exact [] s h n a = tt
