@@ -1,6 +1,6 @@
 -- What the functions of a turn do, as turns.
-use Rattle.std.specs.Prelude.{◌≡◌, refl, Bool, true, false, cond, List, [], ◌++◌, ℕ, ◌≤◌, eqb, length, drop, Option, None, Some, Result, Ok, Err, OnOk, is_ok, get_or, ◌<◌}
-use Rattle.std.proofs.Common.{sym, subst, ◌∙◌, inl, inr, arith, eqb-true}
+use Rattle.std.specs.Prelude.{◌≡◌, refl, Bool, true, false, cond, List, [], ◌++◌, ℕ, ◌+◌, ◌-◌, ◌≤◌, eqb, length, drop, Option, None, Some, Result, Ok, Err, OnOk, is_ok, get_or, ◌<◌}
+use Rattle.std.proofs.Common.{sym, ap, subst, ◌∙◌, inl, inr, arith, eqb-true, length-append, length-drop}
 use Rattle.std.specs.Io.KnownBytes.{Appends, Consumes, Keeps, IsAtEnd}
 use Rattle.std.proofs.KnownBytes.{Appends-nil, Consumes-nil, Consumes-kept}
 use Rattle.machine.specs.Block as M
@@ -29,21 +29,23 @@ module _ (trace : Bool) (t : Turn) (k : List ℕ) where
 
   module _ (p : goes_on t k ≡ true) (more : t.over ≡ false) (few : is_whole false k ≡ false) {a b : Option (List ℕ)} {l : List ℕ} (o : List ℕ) (v : Option (List ℕ)) where
     -- a read brought a piece
-    pub read : {n : ℕ} (piece : List ℕ) → l ≡ k ++ piece → length piece ≡ n → Consumes a b piece → (n ≡ 0 → length k < 65536 → IsAtEnd b)
-        → Stepped trace t k (record { over = eqb n 0; stop = t.stop; failed = t.failed; sensor = t.sensor }) l o a b v v
-    read {n} piece e f h z =
-        let is : ◌≡◌ {A = Turn} (record { over = eqb n 0; stop = t.stop; failed = t.failed; sensor = t.sensor }) (arrived (length piece) t.sensor) =
-        rw (f, (going t k p).not_stopped, (going t k p).not_failed) refl in
-        turned (arrived (length piece) t.sensor) is
+    pub read : {n m : ℕ} (piece : List ℕ) → l ≡ k ++ piece → length piece ≡ n → Consumes a b piece → (n ≡ 0 → length k < 65536 → IsAtEnd b) → m ≡ length l
+        → Stepped trace t k (record { over = eqb n 0; stop = t.stop; failed = t.failed; left = m; written = 0; sensor = t.sensor }) l o a b v v
+    read {n} {m} piece e f h z q =
+        let behind : m ≡ length k + length piece = q ∙ ap (λ (x : List ℕ). length x) e ∙ length-append k piece in
+        let is : ◌≡◌ {A = Turn} (record { over = eqb n 0; stop = t.stop; failed = t.failed; left = m; written = 0; sensor = t.sensor }) (arrived (length k) (length piece) t.sensor) =
+        rw (behind, f, (going t k p).not_stopped, (going t k p).not_failed) refl in
+        turned (arrived (length k) (length piece) t.sensor) is
         (rw e (record { piece = piece; text = []; did = Did.read piece more few; shown = inl refl; took = h; all = λ y s. z (sym f ∙ eqb-true (length piece) 0 y) (room few); wrote = Appends-nil v }))
 
     -- or failed
-    pub cut : l ≡ k → Keeps a b
-        → Stepped trace t k (record { over = t.over; stop = t.stop; failed = Some Failed.Read; sensor = t.sensor }) l o a b v v
-    cut e h =
-        let is : ◌≡◌ {A = Turn} (record { over = t.over; stop = t.stop; failed = Some Failed.Read; sensor = t.sensor }) (cut_off t.sensor) =
-        rw (more, (going t k p).not_stopped) refl in
-        turned (cut_off t.sensor) is
+    pub cut : {m : ℕ} → l ≡ k → Keeps a b → m ≡ length l
+        → Stepped trace t k (record { over = t.over; stop = t.stop; failed = Some Failed.Read; left = m; written = 0; sensor = t.sensor }) l o a b v v
+    cut {m} e h q =
+        let kept : m ≡ length k = q ∙ ap (λ (x : List ℕ). length x) e in
+        let is : ◌≡◌ {A = Turn} (record { over = t.over; stop = t.stop; failed = Some Failed.Read; left = m; written = 0; sensor = t.sensor }) (cut_off (length k) t.sensor) =
+        rw (kept, more, (going t k p).not_stopped) refl in
+        turned (cut_off (length k) t.sensor) is
         (rw e (record { piece = []; text = []; did = Did.failed more few; shown = inl refl; took = Consumes-kept a a b [] (Consumes-nil a) h; all = λ y s. contrary y; wrote = Appends-nil v }))
 
   -- a block was served
@@ -53,11 +55,13 @@ module _ (trace : Bool) (t : Turn) (k : List ℕ) where
 
   pub served : (r : Ran) {e l : List ℕ} (f : Option Failed) (taken : Bool) (v w : Option (List ℕ)) → Enough t k
       → r ≡ answer (length k) (block trace t.over t.sensor k) → e ≡ (block trace t.over t.sensor k).text → (block trace t.over t.sensor k).left ≡ drop r.read k
-      → r.read ≤ length k → l ≡ drop r.read k → f ≡ cond taken None (Some Failed.Write) → (taken ≡ true → Appends v w e)
-      → (a : Option (List ℕ)) → Stepped trace t k (record { over = t.over; stop = r.stop; failed = f; sensor = r.sensor }) l e a a v w
-  served r {e} {l} f taken v w enough is out left within lis fis h a =
+      → r.read ≤ length k → l ≡ drop r.read k → f ≡ cond taken None (Some Failed.Write) → (taken ≡ true → Appends v w e) → {m n : ℕ} → m ≡ length l → n ≡ length e
+      → (a : Option (List ℕ)) → Stepped trace t k (record { over = t.over; stop = r.stop; failed = f; left = m; written = n; sensor = r.sensor }) l e a a v w
+  served r {e} {l} f taken v w enough is out left within lis fis h {m} {n} ml ne a =
       let text : List ℕ = (block trace t.over t.sensor k).text in
-      rw (lis, fis)
+      let rest : m ≡ length k - r.read = ml ∙ ap (λ (x : List ℕ). length x) lis ∙ length-drop r.read k in
+      let made : n ≡ length text = ne ∙ ap (λ (x : List ℕ). length x) out in
+      rw (rest, made, lis, fis)
       (record {
         piece = [];
         text = text;

@@ -16,7 +16,7 @@ beginning = after_start Starting.Checked (record { 0 = 0; 1 = 0 }) stock
 
 -- with no byte kept
 abbrev pub first : Turn
-first = record { over = false; stop = false; failed = None; sensor = beginning }
+first = record { over = false; stop = false; failed = None; left = 0; written = 0; sensor = beginning }
 
 -- something is left to do: not stopped, no read and no write has failed, and more may come or bytes are kept
 unfoldable pub goes_on : Turn → (kept : List ℕ) → Bool
@@ -26,17 +26,17 @@ goes_on t kept = not t.stop && is_none t.failed && (not t.over || ltb 0 (length 
 abbrev pub Enough : Turn → (kept : List ℕ) → Type 0
 Enough t kept = (t.over ≡ true) ⊎ (is_whole false kept ≡ true)
 
--- after a read of `got` bytes; none are the input's end
-abbrev pub arrived : (got : ℕ) → Bma150 → Turn
-arrived got s = record { over = eqb got 0; stop = false; failed = None; sensor = s }
+-- after a read of `got` bytes behind the k that were kept; none are the input's end
+abbrev pub arrived : (k got : ℕ) → Bma150 → Turn
+arrived k got s = record { over = eqb got 0; stop = false; failed = None; left = k + got; written = 0; sensor = s }
 
--- after a read that failed: that is not the input's end
-abbrev pub cut_off : Bma150 → Turn
-cut_off s = record { over = false; stop = false; failed = Some Failed.Read; sensor = s }
+-- after a read that failed, with k bytes kept: that is not the input's end
+abbrev pub cut_off : (k : ℕ) → Bma150 → Turn
+cut_off k s = record { over = false; stop = false; failed = Some Failed.Read; left = k; written = 0; sensor = s }
 
--- after a block, whose text was handed to `write`, which took it or not
-abbrev pub served_by : Turn → Ran → (taken : Bool) → Turn
-served_by t r taken = record { over = t.over; stop = r.stop; failed = if taken then None else Some Failed.Write; sensor = r.sensor }
+-- after a block on k bytes, whose text of so many bytes was handed to `write`, which took it or not
+abbrev pub served_by : Turn → Ran → (taken : Bool) → (k written : ℕ) → Turn
+served_by t r taken k written = record { over = t.over; stop = r.stop; failed = if taken then None else Some Failed.Write; left = k - r.read; written = written; sensor = r.sensor }
 
 -- the bytes that a block leaves of those kept
 abbrev pub left_by : Ran → (kept : List ℕ) → List ℕ
@@ -44,10 +44,10 @@ left_by r k = drop r.read k
 
 -- a turn, from t with the bytes k kept to another with the bytes l: it brings a piece of input, only where no whole command is kept and the input is not over, or it writes the text of a block, only where one is kept or the input is over
 pub data Did (trace : Bool) (t : Turn) (k : List ℕ) : Turn → (l piece text : List ℕ) → Type 0 where
-  read : (piece : List ℕ) → t.over ≡ false → is_whole false k ≡ false → Did trace t k (arrived (length piece) t.sensor) (k ++ piece) piece []
-  failed : t.over ≡ false → is_whole false k ≡ false → Did trace t k (cut_off t.sensor) k [] []
+  read : (piece : List ℕ) → t.over ≡ false → is_whole false k ≡ false → Did trace t k (arrived (length k) (length piece) t.sensor) (k ++ piece) piece []
+  failed : t.over ≡ false → is_whole false k ≡ false → Did trace t k (cut_off (length k) t.sensor) k [] []
   served : (r : Ran) (taken : Bool) → Enough t k → r.read ≤ length k → r ≡ answer (length k) (block trace t.over t.sensor k)
-      → (block trace t.over t.sensor k).left ≡ drop r.read k → Did trace t k (served_by t r taken) (left_by r k) [] (block trace t.over t.sensor k).text
+      → (block trace t.over t.sensor k).left ≡ drop r.read k → Did trace t k (served_by t r taken (length k) (length (block trace t.over t.sensor k).text)) (left_by r k) [] (block trace t.over t.sensor k).text
 
 -- the output grew by this text, if no write failed; what a write that failed left there is not known
 abbrev pub Wrote : Option Failed → (old new : Option (List ℕ)) → (text : List ℕ) → Type 0

@@ -7,12 +7,13 @@ ghost use Rattle.std.specs.Io.KnownBytes.{Keeps};
 ghost use Rattle.bench.specs.Block.{is_whole};
 ghost use Rattle.bench_stream.specs.Loop as S;
 
-use arrayvec::ArrayVec;
+use arrayvec::{ArrayString, ArrayVec};
 use bench::{TEXT, is_whole, run};
 use blocks::KeptBytes;
 use bma150::host::Bma150;
 use sensor::image::stock;
 use std::fmt;
+use std::fmt::Write as _;
 use std::io::{Read, Write};
 use time::Time;
 
@@ -41,12 +42,15 @@ impl fmt::Display for Failed {
     }
 }
 
-// Between two turns. `over`: no more input comes; `stop`: refusal 7 was met; `failed`: what the last turn could not do.
+// Between two turns. `over`: no more input comes; `stop`: refusal 7 was met; `failed`: what the last turn could not do; `left`: the bytes that
+// were read and are yet to be served; `written`: the bytes of text that the last turn made.
 #[derive(Clone, Copy)]
 pub struct Turn {
     pub over: bool,
     pub stop: bool,
     pub failed: Option<Failed>,
+    pub left: usize,
+    pub written: usize,
     pub sensor: Bma150,
 }
 
@@ -59,10 +63,14 @@ fn more<R: Read>(input: &mut R, kept: &mut KeptBytes, t: Turn) -> Turn
     match kept.fill(input) {
         Ok(got) => Turn {
             over: got == 0,
+            left: kept.bytes().len(),
+            written: 0,
             ..t
         },
         Err(_) => Turn {
             failed: Some(Failed::Read),
+            left: kept.bytes().len(),
+            written: 0,
             ..t
         },
     }
@@ -82,10 +90,13 @@ fn commands<W: Write>(
 {
     let ran = run(kept.bytes(), t.over, trace, out, t.sensor);
     kept.skip(ran.read);
-    let written = output.write_all(out.as_slice());
+    let taken = output.write_all(out.as_slice());
+    let left = kept.bytes().len();
     Turn {
         stop: ran.stop,
-        failed: written.err().map(|_| Failed::Write),
+        failed: taken.err().map(|_| Failed::Write),
+        left,
+        written: out.len(),
         sensor: ran.sensor,
         ..t
     }
@@ -125,6 +136,8 @@ fn begin() -> Turn
         over: false,
         stop: false,
         failed: None,
+        left: 0,
+        written: 0,
         sensor: Bma150::start(Time(0, 0), &stock()).sensor,
     }
 }
@@ -165,8 +178,10 @@ pub fn stream<R: Read, W: Write, E: Write>(
     let mut out = ArrayVec::new();
     let t = turns(input, output, &mut kept, &mut out, trace);
     if let Some(what) = t.failed {
-        // There is nowhere to tell that this failed.
-        let _ = writeln!(errors, "bench: {what}");
+        // In one write, whoever else writes there; it has room for either text. There is nowhere to tell that this failed.
+        let mut said = ArrayString::<128>::new();
+        let _ = writeln!(said, "bench: {what}");
+        let _ = errors.write_all(said.as_str().as_bytes());
     }
     t
 }

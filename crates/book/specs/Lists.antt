@@ -15,7 +15,9 @@ use Rattle.book.specs.Does.{does}
 -- ---- the fraction of a pin call's time is a 64-bit word, as its type has it; no other argument is bounded
 
 abbrev pub FitsTimed : Time → Timed → Type 0
+FitsTimed now (Timed.Supply rail) = Unit {0}
 FitsTimed now (Timed.Rising mosi) = now.1 < 2 ^ 64
+FitsTimed now Timed.Falling = Unit {0}
 FitsTimed now (Timed.Pins before after) = now.1 < 2 ^ 64
 FitsTimed now _ = Unit {0}
 

@@ -69,22 +69,18 @@ impl Deadlines {
         Deadlines::default()
     }
 
-    // The earliest of these, of the next sample and of the end of a stored write.
+    // The earliest of these, of the next sample and of the end of a stored write. One after the other: as a `fold` over an array of them, which
+    // is copied, each question for the next due took four times the instructions.
     pub fn earliest(self, sample: Option<Time>, write: Option<Time>) -> Option<Time>
         ensures { result ≡ D.earliest self sample write }
     {
-        [
-            self.serial_ready,
-            sample,
-            self.wake,
-            self.pause,
-            self.quiet,
-            self.irq_hold,
-            write,
-            self.image,
-        ]
-        .into_iter()
-        .fold(None, sooner)
+        let mut first = sooner(write, self.image);
+        first = sooner(self.irq_hold, first);
+        first = sooner(self.quiet, first);
+        first = sooner(self.pause, first);
+        first = sooner(self.wake, first);
+        first = sooner(sample, first);
+        sooner(self.serial_ready, first)
     }
 
     // Each wait later by the length of a supply drop; the wake, which begins anew, as it is.

@@ -1,4 +1,5 @@
 // The functions that keep nothing: times, the torn byte, registers.
+use crate::kind::Kind;
 use crate::record::{Answer, Record, raised, truths};
 use nv::WriteCycle;
 use registers::access::{Gate, begins, ignores, stored, withheld};
@@ -43,20 +44,37 @@ pub(crate) fn ends(r: Record) -> Answer {
 }
 
 // The moments n, x and y, z compared: whether the first precedes, whether they are one.
-pub(crate) fn compared(r: Record) -> Answer {
+fn compared(r: Record) -> Answer {
     let t = r.moment();
     let u = r.other_moment();
     Answer(t.precedes(u).into(), t.same(u).into())
 }
 
 // A clock from the moment n, x on, as many edges further as the bytes a, b, c say.
-pub(crate) fn clock(r: Record) -> Clock {
+fn clock(r: Record) -> Clock {
     Clock::new(r.moment()).advance(u32::from_be_bytes([0, r.a, r.b, r.c]).into())
 }
 
-pub(crate) fn edges(r: Record) -> Answer {
+// What a record asks of a clock: its last edge, its next, or the edges before the moment y, z.
+pub(crate) fn clocked(r: Record) -> Answer {
     let c = clock(r);
-    Answer(c.edges_before(r.other_moment()), c.ordinal())
+    match r.kind {
+        Kind::Last => c.last().into(),
+        Kind::Next => c.next().into(),
+        _ => Answer(c.edges_before(r.other_moment()), c.ordinal()),
+    }
+}
+
+// What a record asks of moments and lengths.
+pub(crate) fn moments(r: Record) -> Answer {
+    match r.kind {
+        Kind::Plus => r.moment().plus(Duration(r.y, r.z)).into(),
+        Kind::Since => r.other_moment().since(r.moment()).into(),
+        Kind::NextUnit => r.moment().next_unit().into(),
+        Kind::Millis => Duration::from_millis(r.x).into(),
+        Kind::Micros => Duration::from_micros(r.x).into(),
+        _ => compared(r),
+    }
 }
 
 // The code of the acceleration n with the offset registers a and b and the range of c, and its two registers.

@@ -6,12 +6,14 @@ mod kind;
 mod record;
 mod stage;
 mod state;
+mod whole;
 
 use crate::state::Leaves;
+use crate::whole::WholeBlocks;
 use std::io;
 
 fn main(rt: HostRuntime) -> io::Result<()> {
-    let mut input = rt.stdin();
+    let mut input = WholeBlocks(rt.stdin());
     let mut output = rt.stdout();
     blocks::drive(&mut Leaves::new(), &mut input, &mut output)
 }

@@ -1,12 +1,11 @@
 // The filter, the interrupts and the registers that these read.
-use crate::formulas::{access, clock, coded, compared, edges, ends, torn, warm};
+use crate::formulas::{access, clocked, coded, ends, moments, torn, warm};
 use crate::kind::Kind;
 use crate::record::{Answer, Record, raised, signed16, truths};
 use crate::stage::{advanced, rested};
 use blocks::Answers;
 use filter::Filter;
 use interrupts::Interrupts;
-use time::Duration;
 
 #[derive(Clone, Copy)]
 pub(crate) struct Leaves {
@@ -53,27 +52,19 @@ impl Leaves {
         self.shown(self.interrupts)
     }
 
-    // What a record asks, and what changes by it.
-    fn answered(&mut self, r: Record) -> Answer {
-        let (i, registers) = (self.interrupts, self.registers);
+    // What a record asks of the filter.
+    fn filter_answered(&mut self, r: Record) -> Answer {
         match r.kind {
-            Kind::Plus => r.moment().plus(Duration(r.y, r.z)).into(),
-            Kind::Since => r.other_moment().since(r.moment()).into(),
-            Kind::NextUnit => r.moment().next_unit().into(),
-            Kind::Compared => compared(r),
-            Kind::Millis => Duration::from_millis(r.x).into(),
-            Kind::Micros => Duration::from_micros(r.x).into(),
-            Kind::Edges => edges(r),
-            Kind::Last => clock(r).last().into(),
-            Kind::Next => clock(r).next().into(),
-            Kind::Torn => torn(r),
-            Kind::Ends => ends(r),
-            Kind::Code => coded(r),
-            Kind::Temperature => warm(r),
-            Kind::Access => access(r),
             Kind::NewFilter => self.filtered(Filter::new(r.a), 0),
             Kind::Select => self.filtered(self.filter.select(r.a), 0),
-            Kind::Push => self.pushed(r),
+            _ => self.pushed(r),
+        }
+    }
+
+    // What a record asks of the interrupts.
+    fn interrupts_answered(&mut self, r: Record) -> Answer {
+        let (i, registers) = (self.interrupts, self.registers);
+        match r.kind {
             Kind::SetRegister => self.register_set(r),
             Kind::NewInterrupts => self.shown(Interrupts::new()),
             Kind::Configure => self.shown(i.configure(registers)),
@@ -82,9 +73,30 @@ impl Leaves {
             Kind::Axis => self.shown(i.axis(r.a, signed16(r.x), registers)),
             Kind::Cycle => self.shown(i.cycle(r.codes(), r.a, registers, [1, 3, 5, 7])),
             Kind::Millisecond => self.shown(i.millisecond(registers)),
-            Kind::Shown => self.shown(i),
+            _ => self.shown(i),
+        }
+    }
+
+    // What a record asks, and what changes by it, a function for each part: on entry a function zeroes the space of every record that it holds by
+    // value, even of a branch that is not taken.
+    fn answered(&mut self, r: Record) -> Answer {
+        match r.kind {
+            Kind::Plus
+            | Kind::Since
+            | Kind::NextUnit
+            | Kind::Compared
+            | Kind::Millis
+            | Kind::Micros => moments(r),
+            Kind::Edges | Kind::Last | Kind::Next => clocked(r),
+            Kind::Torn => torn(r),
+            Kind::Ends => ends(r),
+            Kind::Code => coded(r),
+            Kind::Temperature => warm(r),
+            Kind::Access => access(r),
             Kind::Rest => rested(r),
             Kind::Advance => advanced(r),
+            Kind::NewFilter | Kind::Select | Kind::Push => self.filter_answered(r),
+            _ => self.interrupts_answered(r),
         }
     }
 }

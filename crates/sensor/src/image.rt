@@ -178,8 +178,8 @@ impl Sensor {
     }
 
     // The registers are these; what follows from them is set.
-    fn configured(mut self, registers: [u8; 62]) -> Sensor
-        ensures { result ≡ Im.configured self registers }
+    fn configure(&mut self, registers: [u8; 62])
+        ensures { self.new ≡ Im.configured self.old registers }
     {
         self.registers = registers;
         self.reads = shadowing(self.reads, registers[OPERATION]);
@@ -188,20 +188,24 @@ impl Sensor {
             .filter
             .select(bandwidth(registers[MEASUREMENT]));
         self.interrupts = self.interrupts.configure(registers);
+    }
+
+    pub fn copy_image(mut self) -> Sensor
+        ensures { result ≡ Im.copy_image self }
+    {
+        let registers = image_copied(self.registers, self.nonvolatile);
+        self.configure(registers);
         self
     }
 
-    pub fn copy_image(self) -> Sensor
-        ensures { result ≡ Im.copy_image self }
-    {
-        self.configured(image_copied(self.registers, self.nonvolatile))
-    }
-
-    // A start with these stored bytes.
+    // A start with these stored bytes. The blank sensor is configured where it stands: by `copy_image` a start took twice the instructions.
     pub fn from_nonvolatile(now: Time, image: [u8; 19]) -> Sensor
         ensures { result ≡ Im.from_nonvolatile now image }
     {
-        blank(now, image, new_kept()).copy_image()
+        let mut s = blank(now, image, new_kept());
+        let registers = image_copied(s.registers, image);
+        s.configure(registers);
+        s
     }
 
     pub fn power_on(self, now: Time) -> Sensor

@@ -10,7 +10,7 @@ use sensor::types::{Outage, Sensor};
 use time::{Duration, Time};
 
 // A function and no `From`: at each call its name says what the answer lacks.
-fn without_report(sensor: Sensor) -> Served
+pub fn without_report(sensor: Sensor) -> Served
     ensures { result ≡ Sup.without_report sensor }
 {
     Served {

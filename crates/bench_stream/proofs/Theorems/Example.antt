@@ -36,15 +36,15 @@ ran = answer 2 (block false false beginning sent)
 
 -- after the read
 abbrev came : Turn
-came = arrived 2 beginning
+came = arrived 0 2 beginning
 
 -- after its line
 abbrev served : Turn
-served = served_by came ran true
+served = served_by came ran true 2 15
 
 -- after the read of nothing
 abbrev over : Turn
-over = arrived 0 ran.sensor
+over = arrived 0 0 ran.sensor
 
 pub example : Turns false 3 sent (ascii "0b ok 0 F F 02\n") over []
 unfolding facts wrong_length out_of_range jumps late too_late goes_back before_due beside_due first_found refusal reserved turned_down start_refusal unless_refused after_start leaves adds shadowing peek is_acceleration mark mark_of shown interrupt shows_new_data output data_output spi_drives i2c_holds drive_letter view_value mark_letter is_set away withheld unreadable image_blocks locked Pin.output Pin.threshold_output Pin.motion_output configure number_at opcode operands named decoded wants size is_bad word bit view_text mark_text due_text commanded added_text pins line turn iterate M.needed_bytes M.bounded_turn M.block is_whole goes_on

@@ -19,7 +19,7 @@ use Rattle.bench_stream.proofs.Theorems.Loop.{so_far}
 
 module _ (trace : Bool) where
   -- a turn that reads, whether or not the read fails
-  abbrev pub Reads : {t u : Turn} {k m piece text : List ℕ} → Did trace t k u m piece text → Type 0
+  abbrev pub Reads : {t : Turn} {k : List ℕ} {u : Turn} {m piece text : List ℕ} → Did trace t k u m piece text → Type 0
   Reads (Did.read piece more few) = Unit {0}
   Reads (Did.failed more few) = Unit {0}
   Reads (Did.served r taken enough z is left) = ⊥
@@ -42,14 +42,14 @@ module _ (trace : Bool) where
       }
 
   -- where the loop reads, it has answered every whole command that it had read
-  pub answered : {n : ℕ} {l w : List ℕ} {t u : Turn} {k m piece text : List ℕ} → Turns trace n l w t k → goes_on t k ≡ true
+  pub answered : {n : ℕ} {l w : List ℕ} {t : Turn} {k : List ℕ} {u : Turn} {m piece text : List ℕ} → Turns trace n l w t k → goes_on t k ≡ true
       → (d : Did trace t k u m piece text) → Reads d → Answered l w
   answered h p (Did.read piece more few) r = answered_of h p more few
   answered h p (Did.failed more few) r = answered_of h p more few
   answered h p (Did.served r taken enough z is left) q = absurd q
 
   -- a read that brought nothing
-  abbrev pub Nothing : {t u : Turn} {k m piece text : List ℕ} → Did trace t k u m piece text → Type 0
+  abbrev pub Nothing : {t : Turn} {k : List ℕ} {u : Turn} {m piece text : List ℕ} → Did trace t k u m piece text → Type 0
   Nothing (Did.read piece more few) = length piece ≡ 0
   Nothing (Did.failed more few) = ⊥
   Nothing (Did.served r taken enough z is left) = ⊥
@@ -59,7 +59,7 @@ module _ (trace : Bool) where
   Seen Turns.none = ⊥
   Seen (Turns.more h p d) = Nothing d ⊎ Seen h
 
-  over_did : {n : ℕ} {l w : List ℕ} {t u : Turn} {k m piece text : List ℕ} (h : Turns trace n l w t k) → (t.over ≡ true → Seen h)
+  over_did : {n : ℕ} {l w : List ℕ} {t : Turn} {k : List ℕ} {u : Turn} {m piece text : List ℕ} (h : Turns trace n l w t k) → (t.over ≡ true → Seen h)
       → (d : Did trace t k u m piece text) → u.over ≡ true → Nothing d ⊎ Seen h
   over_did h before (Did.read piece more few) e = inl (eqb-true (length piece) 0 e)
   over_did h before (Did.failed more few) e = contrary e
@@ -85,8 +85,8 @@ module _ (trace : Bool) where
     shrinks r enough left = rw left at (block_takes (lawful trace) t.over t.sensor k (taking t.over refl enough))
 
   -- a turn that does not read takes a byte at least of those kept
-  pub no_idle_turn : {t u : Turn} {k m piece text : List ℕ} → goes_on t k ≡ true → (d : Did trace t k u m piece text)
+  pub no_idle_turn : {t : Turn} {k : List ℕ} {u : Turn} {m piece text : List ℕ} → goes_on t k ≡ true → (d : Did trace t k u m piece text)
       → Reads d ⊎ (length m + 1 ≤ length k)
   no_idle_turn p (Did.read piece more few) = inl tt
   no_idle_turn p (Did.failed more few) = inl tt
-  no_idle_turn {t} {u} {k} p (Did.served r taken enough z is left) = inr (shrinks t k p r enough left)
+  no_idle_turn {t} {k} p (Did.served r taken enough z is left) = inr (shrinks t k p r enough left)

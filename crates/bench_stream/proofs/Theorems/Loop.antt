@@ -39,23 +39,23 @@ module _ (trace : Bool) where
   by_read piece false h = brought piece h
 
   module _ {l w : List ℕ} (t : Turn) (k : List ℕ) (going : t.stop ≡ false) (h : Led l w t k) where
-    read_steps : (piece : List ℕ) → t.over ≡ false → Adds l w piece [] (between_of (arrived (length piece) t.sensor) (k ++ piece))
-    read_steps piece more = silent (by_read piece (arrived (length piece) t.sensor).over (renamed _ _ (same_between refl refl more going) h))
+    read_steps : (piece : List ℕ) → t.over ≡ false → Adds l w piece [] (between_of (arrived (length k) (length piece) t.sensor) (k ++ piece))
+    read_steps piece more = silent (by_read piece (arrived (length k) (length piece) t.sensor).over (renamed _ _ (same_between refl refl more going) h))
 
-    failed_steps : t.over ≡ false → Adds l w [] [] (between_of (cut_off t.sensor) k)
+    failed_steps : t.over ≡ false → Adds l w [] [] (between_of (cut_off (length k) t.sensor) k)
     failed_steps more = silent (still (renamed _ _ (same_between refl refl more going) h))
 
     served_steps : (r : Ran) (taken : Bool) → r ≡ answer (length k) (block trace t.over t.sensor k)
         → (block trace t.over t.sensor k).left ≡ drop r.read k
-        → Adds l w [] (block trace t.over t.sensor k).text (between_of (served_by t r taken) (left_by r k))
+        → Adds l w [] (block trace t.over t.sensor k).text (between_of (served_by t r taken (length k) (length (block trace t.over t.sensor k).text)) (left_by r k))
     served_steps r taken is left =
         still (renamed _ _ (same_between (sym (ap (λ (q : Ran). q.sensor) is)) left refl (sym (ap (λ (q : Ran). q.stop) is)))
         (ran (renamed _ _ (same_between refl refl refl going) h)))
 
-  did : {l w : List ℕ} {t u : Turn} {k m piece text : List ℕ} → t.stop ≡ false → Led l w t k → Did trace t k u m piece text → Led (l ++ piece) (w ++ text) u m
-  did {l} {w} {t} {u} {k} going h (Did.read piece more few) = read_steps t k going h piece more
-  did {l} {w} {t} {u} {k} going h (Did.failed more few) = failed_steps t k going h more
-  did {l} {w} {t} {u} {k} going h (Did.served r taken enough z is left) = served_steps t k going h r taken is left
+  did : {l w : List ℕ} {t : Turn} {k : List ℕ} {u : Turn} {m piece text : List ℕ} → t.stop ≡ false → Led l w t k → Did trace t k u m piece text → Led (l ++ piece) (w ++ text) u m
+  did {l} {w} {t} {k} {u} going h (Did.read piece more few) = read_steps t k going h piece more
+  did {l} {w} {t} {k} {u} going h (Did.failed more few) = failed_steps t k going h more
+  did {l} {w} {t} {k} {u} going h (Did.served r taken enough z is left) = served_steps t k going h r taken is left
 
   -- what the turns read and handed to `write` are pieces brought and texts of blocks
   pub led : {n : ℕ} {l w : List ℕ} {t : Turn} {k : List ℕ} → Turns trace n l w t k → Led l w t k

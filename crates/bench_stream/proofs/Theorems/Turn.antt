@@ -59,18 +59,18 @@ unfolding goes_on
 ends_because t kept e = by_fields t kept t.stop t.failed t.over refl refl refl e
 
 -- a read that failed ends the loop
-pub failed_read_ends : (s : Bma150) (kept : List ℕ) → goes_on (cut_off s) kept ≡ false
+pub failed_read_ends : (k : ℕ) (s : Bma150) (kept : List ℕ) → goes_on (cut_off k s) kept ≡ false
 unfolding goes_on
-failed_read_ends s kept = refl
+failed_read_ends k s kept = refl
 
 either_way : (z o : Bool) → (not z && false && o) ≡ false
 either_way true o = refl
 either_way false o = refl
 
 -- so does a text that `write` did not take
-pub failed_write_ends : (t : Turn) (r : Ran) (kept : List ℕ) → goes_on (served_by t r false) kept ≡ false
+pub failed_write_ends : (t : Turn) (r : Ran) (k written : ℕ) (kept : List ℕ) → goes_on (served_by t r false k written) kept ≡ false
 unfolding goes_on
-failed_write_ends t r kept = either_way r.stop _
+failed_write_ends t r k written kept = either_way r.stop _
 
 -- so where nothing has failed it has stopped, or no byte is kept
 pub at_end : (t : Turn) (kept : List ℕ) → goes_on t kept ≡ false → t.failed ≡ None → AtEnd (between_of t kept)
