@@ -21,147 +21,117 @@ fn levels(e: u8, scl: u8, sda: u8) -> Levels {
     }
 }
 
+// An event changes the sensor where it stands: handed on by value, it took up to 1.4 times the instructions.
 impl Sensor {
     // Whether converted values were used, which shows only while a sample is next.
-    fn told(self, consumes: bool) -> Sensor {
-        let consumed = if self.awake { consumes } else { self.consumed };
-        Sensor { consumed, ..self }
+    fn tell(&mut self, consumes: bool) {
+        if self.awake {
+            self.consumed = consumes;
+        }
     }
 
-    fn launched(mut self, address: u8) -> Sensor {
+    fn launch(&mut self, address: u8) {
         let tx = self.fetched(address);
         self.frame = self.frame.sending(tx);
         self.i2c = self.i2c.launched(sent_byte(tx));
-        self
     }
 
-    fn i2c_written(self, address: u8, value: u8) -> Sensor {
-        let mut s = self.written(address, value);
-        s.i2c = s.i2c.written(s.quiet);
-        s
-    }
-
-    fn dropped(mut self) -> Sensor {
-        self.frame = self.frame.sending(None);
-        self
-    }
-
-    fn acted(self, action: Option<Action>) -> Sensor {
+    fn act(&mut self, action: Option<Action>) {
         match action {
-            None => self,
-            Some(Action::Drop) => self.dropped(),
-            Some(Action::Write(a, v)) => self.i2c_written(a, v),
-            Some(Action::Launch(a)) => self.launched(a),
-            Some(Action::ReadBegan(a)) => self.noted(a),
+            None => {}
+            Some(Action::Drop) => self.frame = self.frame.sending(None),
+            Some(Action::Write(a, v)) => {
+                *self = self.written(a, v);
+                self.i2c = self.i2c.written(self.quiet);
+            }
+            Some(Action::Launch(a)) => self.launch(a),
+            Some(Action::ReadBegan(a)) => *self = self.noted(a),
         }
     }
 
-    fn reported(mut self, before: Levels, after: Levels) -> Sensor {
+    fn report(&mut self, before: Levels, after: Levels) {
         if self.frame.selected {
             self.i2c = self.i2c.abort();
-            return self;
+            return;
         }
-        let mut s = self.told(!self.quiet && self.i2c.consumes_conversion(before, after));
-        let sent = sent_byte(s.frame.tx);
-        let step = s.i2c.step(before, after, s.quiet, sent);
-        s.i2c = step.state;
-        s.acted(step.action)
+        self.tell(!self.quiet && self.i2c.consumes_conversion(before, after));
+        let sent = sent_byte(self.frame.tx);
+        let step = self.i2c.step(before, after, self.quiet, sent);
+        self.i2c = step.state;
+        self.act(step.action);
     }
 
-    fn report(self, e: u8) -> Sensor {
-        self.reported(levels(e, 3, 2), levels(e, 1, 0))
-    }
-
-    fn select(mut self, selected: bool) -> Sensor {
+    fn select(&mut self, selected: bool) {
         if self.frame.changes(selected) {
             self.i2c = self.i2c.abort();
             self.frame = self.frame.select(selected);
         }
-        self
     }
 
     // The output at an edge.
-    fn shifted(mut self, at: Clocked) -> Sensor {
+    fn shift(&mut self, at: Clocked) {
         match self.frame.shifts(at, self.four_wire()) {
             Shift::Stay => {}
             Shift::Fetch(a) => self.frame = self.frame.shifted(self.fetched(a)),
             Shift::Next => self.frame = self.frame.shifted(self.frame.tx),
         }
-        self
-    }
-
-    fn first_bit_taken(self) -> Sensor {
-        match self.frame.first_bit() {
-            Some(address) => self.noted(address),
-            None => self,
-        }
-    }
-
-    fn spi_written(self, write: Option<(u8, u8)>) -> Sensor {
-        match write {
-            Some((address, value)) => self.written(address, value),
-            None => self,
-        }
     }
 
     // A bit is taken.
-    fn taken(self, mosi: bool) -> Sensor {
-        let mut s = self.first_bit_taken();
-        let taken = s.frame.take_bit(mosi, s.four_wire());
-        s.frame = taken.frame;
-        s.spi_written(taken.write).shifted(Clocked::Rise)
+    fn take(&mut self, mosi: bool) {
+        if let Some(address) = self.frame.first_bit() {
+            *self = self.noted(address);
+        }
+        let taken = self.frame.take_bit(mosi, self.four_wire());
+        self.frame = taken.frame;
+        if let Some((address, value)) = taken.write {
+            *self = self.written(address, value);
+        }
+        self.shift(Clocked::Rise);
     }
 
-    fn rise(self, mosi: bool) -> Sensor {
+    fn rise(&mut self, mosi: bool) {
         if !self.frame.selected || self.quiet {
-            return self;
+            return;
         }
-        let mut s = self.told(self.frame.consumes_at_rise());
-        if s.frame.turnaround {
-            s.frame = s.frame.turned();
-            return s.shifted(Clocked::Turnaround);
+        self.tell(self.frame.consumes_at_rise());
+        if self.frame.turnaround {
+            self.frame = self.frame.turned();
+            self.shift(Clocked::Turnaround);
+            return;
         }
-        s.taken(mosi)
+        self.take(mosi);
     }
 
-    fn fall(self) -> Sensor {
+    fn fall(&mut self) {
         if self.frame.selected {
-            let consumes = !self.quiet && self.frame.consumes_at_fall(self.four_wire());
-            return self.told(consumes).shifted(Clocked::Fall);
+            self.tell(!self.quiet && self.frame.consumes_at_fall(self.four_wire()));
         }
-        self.shifted(Clocked::Fall)
+        self.shift(Clocked::Fall);
     }
 
-    fn view(mut self, address: u8) -> Sensor {
-        self.viewed = self.fetched(address);
-        self
-    }
-
-    fn event(self, e: u8) -> Sensor {
-        let s = Sensor {
-            consumed: false,
-            viewed: NO_VIEW,
-            ..self
-        };
+    fn event(&mut self, e: u8) {
+        self.consumed = false;
+        self.viewed = NO_VIEW;
         match e {
-            0x00..=0x0f => s.report(e),
-            0x10 => s.select(false),
-            0x11 => s.select(true),
-            0x20 => s.rise(false),
-            0x21 => s.rise(true),
-            0x30 => s.fall(),
-            0x40 => Sensor { quiet: false, ..s },
-            0x60 => start(FOUR_WIRES),
-            0x61 => start(THREE_WIRES),
-            0x80..=0xff => s.view(e % 128),
-            _ => s,
+            0x00..=0x0f => self.report(levels(e, 3, 2), levels(e, 1, 0)),
+            0x10 => self.select(false),
+            0x11 => self.select(true),
+            0x20 => self.rise(false),
+            0x21 => self.rise(true),
+            0x30 => self.fall(),
+            0x40 => self.quiet = false,
+            0x60 => *self = start(FOUR_WIRES),
+            0x61 => *self = start(THREE_WIRES),
+            0x80..=0xff => self.viewed = self.fetched(e % 128),
+            _ => {}
         }
     }
 }
 
 impl Answers<1, 2> for Sensor {
     fn answer(&mut self, item: &[u8; 1]) -> [u8; 2] {
-        *self = self.event(item[0]);
+        self.event(item[0]);
         [self.pins(), self.viewed.unwrap_or(0)]
     }
 }
