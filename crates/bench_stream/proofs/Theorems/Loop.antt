@@ -1,6 +1,6 @@
 -- What the loop has read and handed to `write`.
 use Rattle.std.specs.Prelude.{◌≡◌, refl, Bool, true, false, List, [], ◌++◌, ℕ, ◌+◌, ◌-◌, ◌^◌, length, drop, Option, None, Some}
-use Rattle.std.proofs.Common.{◌∙◌, sym, ap, subst, inl, inr, append-nil}
+use Rattle.std.proofs.Common.{◌∙◌, sym, ap, subst, inl, inr, append-nil, length-append, length-drop}
 use Rattle.std.proofs.KnownBytes.{Consumes-nil, Consumes-trans, Appends-nil, Appends-trans}
 use Rattle.std.specs.Io.KnownBytes.{Appends, Consumes, IsAtEnd}
 use Rattle.machine.specs.Pieces.{Between, between, Steps, begun, brought, ended, ran}
@@ -56,6 +56,17 @@ module _ (trace : Bool) where
   did {l} {w} {t} {k} {u} going h (Did.read piece more few) = read_steps t k going h piece more
   did {l} {w} {t} {k} {u} going h (Did.failed more few) = failed_steps t k going h more
   did {l} {w} {t} {k} {u} going h (Did.served r taken enough z is left) = served_steps t k going h r taken is left
+
+  -- a turn tells how many bytes it keeps, and how many bytes of text it made
+  pub told : {t : Turn} {k : List ℕ} {u : Turn} {m piece text : List ℕ} → Did trace t k u m piece text → (u.left ≡ length m) × (u.written ≡ length text)
+  told {t} {k} (Did.read piece more few) = (sym (length-append k piece), refl)
+  told (Did.failed more few) = (refl, refl)
+  told {t} {k} (Did.served r taken enough z is left) = (sym (length-drop r.read k), refl)
+
+  -- so the loop's answer tells how many bytes were read and not served
+  pub left_told : {n : ℕ} {l w : List ℕ} {t : Turn} {k : List ℕ} → Turns trace n l w t k → t.left ≡ length k
+  left_told Turns.none = refl
+  left_told (Turns.more h p d) = (told d).0
 
   -- what the turns read and handed to `write` are pieces brought and texts of blocks
   pub led : {n : ℕ} {l w : List ℕ} {t : Turn} {k : List ℕ} → Turns trace n l w t k → Led l w t k
